@@ -1,0 +1,14 @@
+pub mod Cuts
+pub mod Separators
+pub mod Digits
+pub mod Reading
+pub mod Printing
+pub mod WeightLaws
+pub mod Counts
+pub mod Rising
+pub mod Joins
+pub mod Places
+pub mod Overwrites
+pub mod Edits
+pub mod Swaps
+pub mod TabCounts

@@ -1,0 +1,29 @@
+-- The block of a record, and where a field stands in it.
+use Rattle.std.specs.Prelude.{◌≡◌, ℕ, suc, ◌≤◌, List, [], ◌∷◌, ◌++◌, length, take, drop, slice_range, slice_index_or}
+use Rattle.std.specs.List.{AllByRecursion}
+use Rattle.ff_rec.specs.Lines.{IsPlain, cut, behind}
+
+-- a block of `count` fields, joined by tabs
+pub record IsBlock (block : List ℕ) (count : ℕ) : Type 0 where
+  pub counted : count ≡ length (cut 9 block)
+  pub few : length (cut 9 block) ≤ 64
+  pub plain : AllByRecursion IsPlain (cut 9 block)
+
+-- the fields, each before a tab
+abbrev pub before : List (List ℕ) → List ℕ
+before [] = []
+before (field ∷ fields) = field ++ 9 ∷ before fields
+
+-- the piece `k` of a block, counted from 0, begins at `start`
+pub record IsStart (block : List ℕ) (k start : ℕ) : Type 0 where
+  pub within : start ≤ length block
+  pub front : take start block ≡ before (take k (cut 9 block))
+  pub rest : cut 9 (drop start block) ≡ drop k (cut 9 block)
+
+-- the piece `k` of a block, counted from 0, stands from `start` up to `end`
+pub record IsPlace (block : List ℕ) (k start end : ℕ) : Type 0 where
+  pub order : start ≤ end
+  pub within : end ≤ length block
+  pub here : slice_range block start end ≡ slice_index_or (cut 9 block) k []
+  pub front : take start block ≡ before (take k (cut 9 block))
+  pub back : drop end block ≡ behind (drop (suc k) (cut 9 block))

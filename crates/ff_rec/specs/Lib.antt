@@ -1,0 +1,10 @@
+pub mod Weights
+pub mod Lines
+pub mod Number
+pub mod Fields
+pub mod Pieces
+pub mod Field
+pub mod Times
+pub mod Contents
+pub mod Block
+pub mod Streams

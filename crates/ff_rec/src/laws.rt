@@ -1,0 +1,19 @@
+// What holds of the words of this crate's contracts, whatever the call.
+ghost use Rattle.ff_rec.specs.Contents.{ContentsLaw};
+ghost use Rattle.ff_rec.specs.Number.{PrintedIsRead};
+ghost use Rattle.ff_rec.specs.Times.{SameIsCounts};
+
+/// What is printed of a number is read as that number.
+pub fn printed_numbers_are_read()
+    ensures { PrintedIsRead }
+{}
+
+/// Lists of records are `Same` exactly where each record stands in both as often.
+pub fn same_is_each_record_as_often()
+    ensures { SameIsCounts }
+{}
+
+/// `contents` is just what occurs in the field, in byte order, each content once.
+pub fn contents_rise_and_are_what_occurs()
+    ensures { ContentsLaw }
+{}

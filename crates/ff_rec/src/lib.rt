@@ -1,0 +1,22 @@
+//! Records of fields, numbers in fields, and how records are written: the base of all other crates.
+#![tactic(auto)]
+
+mod block;
+mod fault;
+mod field;
+mod laws;
+mod msg;
+mod number;
+mod pieces;
+mod record;
+mod tabs;
+
+pub use fault::{CutFault, FieldFault, Kept, NoMemory, PushFault};
+pub use field::Field;
+pub use laws::{
+    contents_rise_and_are_what_occurs, printed_numbers_are_read, same_is_each_record_as_often,
+};
+pub use msg::Msg;
+pub use number::{print_number, read_number};
+pub use pieces::split;
+pub use record::{MOST_FIELDS, Record, print_record};

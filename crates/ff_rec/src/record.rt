@@ -1,0 +1,160 @@
+// A record: one block of bytes that holds its fields joined by tabs.
+ghost use Rattle.std.specs.Prelude.{◌≡◌, ◌↔◌, ◌-◌, ◌<◌, ◌≤◌, [], ◌∷◌, ◌++◌, length, slice_set, Some, None, IfOk, IfSome, OnOk, OnErr, IsErrOf, MatchOption};
+ghost use Rattle.ff_rec.specs.declared.fault.PushFault.TheVariants.{Full};
+ghost use Rattle.ff_rec.specs.declared.fault.CutFault.TheVariants.{TooManyFields};
+ghost use Rattle.ff_rec.specs.Fields.{field_at};
+ghost use Rattle.ff_rec.specs.Lines.{IsPlain, IsRec, cut, tabs, joined, line_of};
+ghost use Rattle.ff_rec.specs.Number.{printed};
+ghost use Rattle.ff_rec.specs.Pieces.{Lacks};
+
+mod edits;
+#[cfg(test)]
+mod tests;
+
+use crate::block::{append_line, place, push_field, put};
+use crate::tabs::count_tabs;
+use crate::{CutFault, Field, Kept, NoMemory, PushFault};
+use itoa::Buffer;
+use std::alloc::Global;
+use std::marker::Model;
+
+/// The most fields that a record has.
+pub const MOST_FIELDS: usize = 64;
+
+/// 1 to 64 fields, numbered from 1.
+#[derive(Debug, Drop)]
+pub struct Record {
+    block: Vec<u8>,
+    count: usize,
+}
+
+impl Model for Record {
+    ghost use Rattle.std.specs.Prelude.{List, ℕ};
+    ghost use Rattle.ff_rec.specs.Lines.{cut};
+    ghost use Rattle.ff_rec.specs.Block.{IsBlock};
+
+    ghost Value = { List (List ℕ) };
+
+    ghost view = { λ r. cut 9 r.block.items };
+
+    ghost invariant = { λ r. IsBlock r.block.items r.count };
+}
+
+impl Record {
+    /// The record of that one field.
+    pub fn one(alloc: Global, first: &Field) -> Result<Record, NoMemory>
+        ensures { IfOk result (λ r. r ≡ first.now ∷ []) }
+    {
+        Ok(Record {
+            block: Vec::from_slice(alloc, first.bytes())?,
+            count: 1,
+        })
+    }
+
+    /// A line, without its newline, cut at its tabs.
+    pub fn of_line(alloc: Global, line: &[u8]) -> Result<Record, CutFault>
+        requires { Lacks 10 line.now }
+        ensures ok { IfOk result (λ r. r ≡ cut 9 line.now) }
+        ensures too_many { IsErrOf result TooManyFields → 63 < tabs line.now }
+        ensures few { OnOk result (tabs line.now ≤ 63) }
+    {
+        let count = count_tabs(line) + 1;
+        if MOST_FIELDS < count {
+            return Err(CutFault::TooManyFields);
+        }
+        match Vec::from_slice(alloc, line) {
+            Ok(block) => Ok(Record { block, count }),
+            Err(_) => Err(CutFault::NoMemory),
+        }
+    }
+
+    /// How many fields it has.
+    pub fn len(&self) -> usize
+        ensures len { result ≡ length self.now }
+        ensures within { IsRec self.now }
+    {
+        self.count
+    }
+
+    /// The bytes of field `k`, counted from 1.
+    pub fn field(&self, k: usize) -> Option<&[u8]>
+        ensures field { MatchOption result (field_at k self.now ≡ None) (λ bytes. field_at k self.now ≡ Some bytes.now) }
+        ensures plain { IfSome result (λ bytes. IsPlain bytes.now) }
+    {
+        if k == 0 || self.count < k {
+            return None;
+        }
+        let block = self.block.as_slice();
+        let (start, end) = place(block, self.count, k - 1);
+        Some(&block[start..end])
+    }
+
+    /// The fields joined by single tabs.
+    pub fn joined(&self) -> &[u8]
+        ensures { result.now ≡ joined self.now }
+    {
+        self.block.as_slice()
+    }
+
+    /// Adds a last field. After a refusal the record is unchanged.
+    pub fn push(&mut self, field: &Field) -> Result<(), PushFault>
+        ensures ok { OnOk result (self.new ≡ self.old ++ field.now ∷ []) }
+        ensures full { IsErrOf result Full ↔ (length self.old ≡ MOST_FIELDS) }
+        ensures err { OnErr result (self.new ≡ self.old) }
+    {
+        if self.count == MOST_FIELDS {
+            return Err(PushFault::Full);
+        }
+        match push_field(&mut self.block, field.bytes()) {
+            Ok(()) => {
+                self.count += 1;
+                Ok(())
+            }
+            Err(NoMemory) => Err(PushFault::NoMemory),
+        }
+    }
+
+    /// Puts other bytes in the place of field `k`, counted from 1. After a refusal the record is unchanged.
+    pub fn set(&mut self, k: usize, field: &Field) -> Result<(), NoMemory>
+        requires low { 1 ≤ k }
+        requires high { k ≤ length self.old }
+        ensures ok { OnOk result (self.new ≡ slice_set self.old (k - 1) field.now) }
+        ensures err { OnErr result (self.new ≡ self.old) }
+    {
+        put(&mut self.block, self.count, k - 1, field.bytes())
+    }
+
+    /// Puts a number, as it is printed, in the place of field `k`, counted from 1. It makes no block of its own where
+    /// the digits fit. After a refusal the record is unchanged.
+    pub fn set_number(&mut self, k: usize, n: i64) -> Result<(), NoMemory>
+        requires low { 1 ≤ k }
+        requires high { k ≤ length self.old }
+        ensures ok { OnOk result (self.new ≡ slice_set self.old (k - 1) (printed n)) }
+        ensures err { OnErr result (self.new ≡ self.old) }
+    {
+        let mut buffer = Buffer::new();
+        put(
+            &mut self.block,
+            self.count,
+            k - 1,
+            buffer.format(n).as_bytes(),
+        )
+    }
+}
+
+impl Kept for Record {
+    fn copy(&self) -> Result<Record, NoMemory> {
+        Ok(Record {
+            block: self.block.clone()?,
+            count: self.count,
+        })
+    }
+}
+
+/// Appends the text of a record: its fields joined by tabs, and a newline. After a refusal `into` is unchanged.
+pub fn print_record(r: &Record, into: &mut Vec<u8>) -> Result<(), NoMemory>
+    ensures ok { OnOk result (into.new.items ≡ into.old.items ++ line_of r.now) }
+    ensures err { OnErr result (into.new.items ≡ into.old.items) }
+{
+    append_line(into, r.joined())
+}
