@@ -1,0 +1,19 @@
+//! The outside as the other crates see it: sources and sinks of bytes, each with a count of its faults.
+#![tactic(auto)]
+
+mod mem_sink;
+mod mem_source;
+mod outside;
+mod reader_source;
+mod short_sink;
+mod writer_sink;
+
+pub use mem_sink::MemSink;
+pub use mem_source::MemSource;
+pub use outside::{Failed, Sink, Source, write_all};
+pub use reader_source::{ReaderSource, StdinSource};
+pub use short_sink::ShortSink;
+pub use writer_sink::{StderrSink, StdoutSink, WriterSink};
+
+#[cfg(test)]
+mod tests;
