@@ -1,0 +1,9 @@
+pub mod Behaviour
+pub mod Classes
+pub mod Sends
+pub mod Next
+pub mod Records
+pub mod Stateless
+pub mod Runs
+pub mod Picks
+pub mod Fits

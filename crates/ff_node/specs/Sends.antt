@@ -1,0 +1,48 @@
+-- What a node's calls gather: the records sent, and those rejected.
+use Rattle.std.specs.Prelude.{◌≡◌, ℕ, ◌+◌, ◌-◌, ◌^◌, ◌≤◌, min, Bool, true, false, List, [], ◌∷◌, ◌++◌, length, Option, None, Some}
+use Rattle.ff_rec.specs.Lines.{Rec}
+
+-- the records sent and not taken yet, the number of rejects, whether rejects are kept, and those kept and not taken yet
+pub record Sent : Type 0 where
+  pub sends : List Rec
+  pub rejects : ℕ
+  pub keeps : Bool
+  pub kept : List Rec
+
+-- a count of 64 bits, raised by one for each record, that stands still at its last value
+abbrev pub count_more : ℕ → List Rec → ℕ
+count_more n [] = n
+count_more n (x ∷ xs) = count_more (min (n + 1) (2 ^ 64 - 1)) xs
+
+-- the records that are kept
+abbrev pub kept_of : Bool → List Rec → List Rec
+kept_of true xs = xs
+kept_of false xs = []
+
+-- after these sends and these rejects
+abbrev pub add : Sent → List Rec → List Rec → Sent
+add s sends rejects =
+    record { sends = s.sends ++ sends; rejects = count_more s.rejects rejects; keeps = s.keeps; kept = s.kept ++ kept_of s.keeps rejects }
+
+-- nothing sent and nothing rejected
+abbrev pub nothing_sent : Bool → Sent
+nothing_sent keeps = record { sends = []; rejects = 0; keeps = keeps; kept = [] }
+
+-- the number counts the kept rejects and those that were taken out; where none is kept, none is held
+pub record IsCounted (s : Sent) : Type 0 where
+  pub counts : length s.kept ≤ s.rejects
+  pub none : s.keeps ≡ false → s.kept ≡ []
+
+-- the first send is taken, or there was none
+abbrev pub TakesSend : Sent → Option Rec → Sent → Type 0
+TakesSend s None t = (s.sends ≡ []) × (t ≡ s)
+TakesSend s (Some x) t = s ≡ record t { sends = x ∷ t.sends }
+
+-- the first kept reject is taken, or there was none; the number stays
+abbrev pub TakesReject : Sent → Option Rec → Sent → Type 0
+TakesReject s None t = (s.kept ≡ []) × (t ≡ s)
+TakesReject s (Some x) t = s ≡ record t { kept = x ∷ t.kept }
+
+-- a number, as far as a count of 64 bits tells
+abbrev pub counted : ℕ → ℕ
+counted n = min n (2 ^ 64 - 1)
