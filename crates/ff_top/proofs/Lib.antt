@@ -1,0 +1,10 @@
+pub mod Sums
+pub mod Feeding
+pub mod Prefixes
+pub mod Statuses
+pub mod LineLaws
+pub mod Readings
+pub mod Pieces
+pub mod Joining
+pub mod Written
+pub mod Spelled

@@ -1,0 +1,10 @@
+pub mod Words
+pub mod Add
+pub mod Operation
+pub mod Limits
+pub mod Input
+pub mod Messages
+pub mod Endings
+pub mod RunNode
+pub mod AddLaws
+pub mod Spelling
