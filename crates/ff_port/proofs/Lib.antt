@@ -1,0 +1,3 @@
+mod Openings
+mod Puttings
+mod Rows

@@ -1,0 +1,5 @@
+pub mod Channels
+pub mod Ends
+pub mod Kept
+pub mod Owned
+pub mod Queues

@@ -1,0 +1,17 @@
+//! The ends of channels as a unit sees them, and the queue that stands between two units on one thread.
+#![tactic(auto)]
+
+mod answers;
+mod channel;
+mod own_ports;
+mod ports;
+mod queue;
+
+pub use answers::{End, Put, Step};
+pub use channel::{Inbox, Outbox};
+pub use own_ports::OwnPorts;
+pub use ports::Ports;
+pub use queue::PlainQueue;
+
+#[cfg(test)]
+mod tests;
