@@ -1,0 +1,14 @@
+pub mod StageNodes
+pub mod StageCalls
+pub mod StageKind
+pub mod StageRuns
+pub mod Messages
+pub mod Answer
+pub mod StageTied
+pub mod StageTakes
+pub mod StageKept
+pub mod StageBegins
+pub mod StageFits
+pub mod Refusal
+pub mod StageRefusals
+pub mod StageRejects

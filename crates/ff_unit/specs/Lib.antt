@@ -1,0 +1,4 @@
+pub mod Stage
+pub mod StageSteps
+pub mod StagePorts
+pub mod StageParts

@@ -1,0 +1,116 @@
+-- How a stage steps.
+use Rattle.std.specs.Prelude.{◌≡◌, ◌⊎◌, Bool, true, false, if◌then◌else◌, List, [], ◌∷◌, ◌++◌, Option, None, Some, IsSome}
+use Rattle.ff_rec.specs.Lines.{Rec}
+use Rattle.ff_rec.specs.Streams.{IsOpenMsg, carried}
+use Rattle.ff_rec.specs.declared.msg.Msg.TheVariants.{Item, Mark, Pick, Eos as EosMsg, Abort as AbortMsg}
+use Rattle.ff_node.specs.Behaviour.{Behaviour}
+use Rattle.ff_node.specs.Runs.{Message, Act, Took, Gave, Refused, Idle, Told, Handed}
+use Rattle.ff_node.specs.Sends.{count_more, kept_of}
+use Rattle.ff_port.specs.declared.answers.End.{End}
+use Rattle.ff_port.specs.declared.answers.End.TheVariants.{Eos, Abort, Memory}
+use Rattle.ff_port.specs.declared.answers.Step.{Step}
+use Rattle.ff_port.specs.declared.answers.Step.TheVariants.{Moved, Waits, Ended}
+use Rattle.ff_unit.specs.Stage.{StageState}
+use Rattle.ff_unit.specs.declared.stage.Mode.{Mode}
+use Rattle.ff_unit.specs.declared.stage.Mode.TheVariants.{Live, Shut, Cut}
+
+-- a live node goes on after a record: its sends are held
+abbrev pub goes_on : {N : Type 0} → Behaviour N → StageState N → Rec → StageState N
+goes_on b u x = record u {
+  node = b.next u.node x;
+  held = carried (b.sends u.node x);
+  rejects = count_more u.rejects (b.rejects u.node x);
+  kept = u.kept ++ kept_of u.keeps (b.rejects u.node x);
+}
+
+-- a node in state `n` ends behind these sends and rejects: what it sends at the end and Eos are held
+abbrev pub closes : {N : Type 0} → Behaviour N → StageState N → N → List Rec → List Rec → Option End → StageState N
+closes b u n sends rejects fin = record u {
+  node = b.opening n;
+  held = carried (sends ++ b.last n) ++ EosMsg ∷ [];
+  mode = Shut;
+  fin = fin;
+  rejects = count_more u.rejects (rejects ++ b.last_rejects n);
+  kept = u.kept ++ kept_of u.keeps (rejects ++ b.last_rejects n);
+}
+
+-- a live node takes a record
+abbrev pub works : {N : Type 0} → Behaviour N → StageState N → Rec → StageState N
+works b u x =
+    if b.ends u.node x then closes b u (b.next u.node x) (b.sends u.node x) (b.rejects u.node x) None else goes_on b u x
+
+-- a call of the node was refused memory: it is given up, what would be sent is dropped, and Abort is held
+pub record GivesUp {N : Type 0} (b : Behaviour N) (u : StageState N) (fin : Option End) (v : StageState N) : Type 0 where
+  pub kind : b.opening v.node ≡ b.opening u.node
+  pub held : v.held ≡ AbortMsg ∷ []
+  pub mode : v.mode ≡ Cut
+  pub fin_is : v.fin ≡ fin
+  pub done : v.done ≡ u.done
+  pub keeps : v.keeps ≡ u.keeps
+
+-- the end of a unit that was refused memory, once its in has ended
+abbrev pub short_fin : Option End → Option End
+short_fin None = None
+short_fin (Some fin) = Some Memory
+
+-- a put was refused memory: all that is held is dropped, and Abort is held
+abbrev pub drops : {N : Type 0} → StageState N → StageState N
+drops u = record u { held = AbortMsg ∷ []; mode = Cut; fin = short_fin u.fin }
+
+-- a stage whose node is live takes a message
+abbrev pub LiveTakes : {N : Type 0} → Behaviour N → StageState N → Message → StageState N → Type 0
+LiveTakes b u (Item x) v = (v ≡ works b u x) ⊎ GivesUp b u None v
+LiveTakes b u Mark v = v ≡ record u { held = Mark ∷ [] }
+LiveTakes b u (Pick w) v = v ≡ u
+LiveTakes b u EosMsg v = (v ≡ closes b u u.node [] [] (Some Eos)) ⊎ GivesUp b u (Some Memory) v
+LiveTakes b u AbortMsg v = v ≡ record u { held = AbortMsg ∷ []; mode = Cut; fin = Some Abort }
+
+-- a stage whose node has ended drops what it takes, and ends with its in
+abbrev pub ShutTakes : {N : Type 0} → StageState N → Message → StageState N → Type 0
+ShutTakes u (Item x) v = v ≡ u
+ShutTakes u Mark v = v ≡ u
+ShutTakes u (Pick w) v = v ≡ u
+ShutTakes u EosMsg v = v ≡ record u { fin = Some Eos }
+ShutTakes u AbortMsg v = v ≡ record u { fin = Some Abort }
+
+-- a stage that was refused memory drops what it takes, and ends with its in
+abbrev pub CutTakes : {N : Type 0} → StageState N → Message → StageState N → Type 0
+CutTakes u (Item x) v = v ≡ u
+CutTakes u Mark v = v ≡ u
+CutTakes u (Pick w) v = v ≡ u
+CutTakes u EosMsg v = v ≡ record u { fin = Some Memory }
+CutTakes u AbortMsg v = v ≡ record u { fin = Some Memory }
+
+abbrev pub StageTakes : {N : Type 0} → Behaviour N → Mode → StageState N → Message → StageState N → Type 0
+StageTakes b Live u m v = LiveTakes b u m v
+StageTakes b Shut u m v = ShutTakes u m v
+StageTakes b Cut u m v = CutTakes u m v
+
+-- some held message that isn't the last of a stream
+abbrev pub IsOpenFront : List Message → Type 0
+IsOpenFront [] = ⊥
+IsOpenFront (m ∷ ms) = IsOpenMsg m
+
+-- one act of a stage: it puts the first message that it holds; where it holds none and its end isn't decided, it takes
+abbrev pub StageStep : {N : Type 0} → Behaviour N → StageState N → Act → StageState N → Type 0
+StageStep b u (Took k m) v = (k ≡ 0) × (u.held ≡ []) × (u.fin ≡ None) × StageTakes b u.mode u m v
+StageStep b u (Gave k m) v = (k ≡ 0) × (u.held ≡ m ∷ v.held) × (v ≡ record u { held = v.held })
+StageStep b u Refused v = IsOpenFront u.held × (v ≡ drops u)
+StageStep b u Idle v = (v ≡ u) ⊎ ((u.held ≡ []) × IsSome u.fin × (v ≡ record u { done = true }))
+StageStep b u Told v = (u.held ≡ []) × (u.mode ≡ Live) × (u.fin ≡ None) × (v ≡ record u { held = AbortMsg ∷ []; mode = Cut; fin = Some Abort })
+StageStep b u (Handed x) v = u ≡ record v { kept = x ∷ v.kept }
+
+-- the answer of a unit that neither took nor gave
+abbrev pub idle_answer : Bool → Option End → Step
+idle_answer true (Some fin) = Ended fin
+idle_answer true None = Waits
+idle_answer false fin = Waits
+
+-- what a step answers
+abbrev pub StageAnswers : {N : Type 0} → StageState N → Act → Step → Type 0
+StageAnswers v (Took k m) answer = answer ≡ Moved
+StageAnswers v (Gave k m) answer = answer ≡ Moved
+StageAnswers v Refused answer = answer ≡ Moved
+StageAnswers v Idle answer = answer ≡ idle_answer v.done v.fin
+StageAnswers v Told answer = ⊥
+StageAnswers v (Handed x) answer = ⊥
