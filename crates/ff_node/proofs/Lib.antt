@@ -1,2 +1,4 @@
 pub mod BehaviourLaws
 pub mod SendsLaws
+pub mod PartsSteps
+pub mod CombViews

@@ -4,6 +4,17 @@ pub mod Sends
 pub mod Next
 pub mod Records
 pub mod Stateless
+pub mod OnLists
+pub mod OnListsLaws
+pub mod Comb
+pub mod CombParts
+pub mod CombLaws
+pub mod CombKind
+pub mod CombStates
+pub mod CombFolds
+pub mod JointClass
+pub mod CombClasses
 pub mod Runs
 pub mod Picks
 pub mod Fits
+pub mod Cmp

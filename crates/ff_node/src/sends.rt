@@ -1,5 +1,5 @@
 // What a node's calls gather for their caller.
-ghost use Rattle.std.specs.Prelude.{◌≡◌, ◌∷◌, [], length, true, false, IsOk, OnOk, OnErr};
+ghost use Rattle.std.specs.Prelude.{◌≡◌, ◌∷◌, ◌++◌, [], length, true, false, IsOk, OnOk, OnErr};
 ghost use Rattle.ff_node.specs.Sends.{add, nothing_sent, IsCounted, TakesSend, TakesReject};
 
 use crate::copies::copies;
@@ -7,6 +7,7 @@ use ff_rec::{Kept, NoMemory, Record};
 use std::alloc::Global;
 use std::collections::VecDeque;
 use std::marker::Model;
+use std::mem;
 
 /// The records that a node sent, and the number of those that it rejected, which are kept where that is asked for.
 #[derive(Debug, Drop)]
@@ -102,6 +103,38 @@ impl Sends {
         ensures { TakesSend self.old result self.new }
     {
         self.sends.pop_front()
+    }
+
+    /// All that was sent, which is taken out.
+    pub(crate) fn take_sends(&mut self) -> VecDeque<Record>
+        ensures taken { result.items ≡ self.old.sends }
+        ensures left { self.new ≡ record self.old { sends = [] } }
+    {
+        let none = VecDeque::new(*self.sends.allocator());
+        mem::replace(&mut self.sends, none)
+    }
+
+    /// These in the place of what was sent, which comes back in theirs.
+    pub(crate) fn swap_sends(&mut self, other: &mut VecDeque<Record>)
+        ensures mine { self.new ≡ record self.old { sends = other.old.items } }
+        ensures theirs { other.new.items ≡ self.old.sends }
+    {
+        mem::swap(&mut self.sends, other);
+    }
+
+    /// Both, one behind the other, in the place of what was sent.
+    pub(crate) fn put_sends(
+        &mut self,
+        front: VecDeque<Record>,
+        back: VecDeque<Record>,
+    ) -> Result<(), NoMemory>
+        ensures { OnOk result (self.new ≡ record self.old { sends = front.items ++ back.items }) }
+    {
+        let mut front = front;
+        let mut back = back;
+        front.append(&mut back)?;
+        self.sends = front;
+        Ok(())
     }
 
     /// The first reject that is kept.

@@ -1,4 +1,6 @@
 // What no clause says: that memory is there, so that each call does its work.
+mod comb;
+
 use crate::{Records, Sends};
 use ff_rec::{Field, Kept, Record};
 use std::test::Fail;

@@ -12,3 +12,4 @@ pub mod Overwrites
 pub mod Edits
 pub mod Swaps
 pub mod TabCounts
+pub mod Splits

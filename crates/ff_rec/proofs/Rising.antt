@@ -28,7 +28,7 @@ pub Contains-nil : {X : Type 0} (x : X) → ¬ (Contains [] x)
 Contains-nil x h = omega (arith, h.1)
 
 -- byte order tells contents apart
-Equal-same : (a b : List ℕ) → slice_cmp nat_cmp a b ≡ Equal → a ≡ b
+pub Equal-same : (a b : List ℕ) → slice_cmp nat_cmp a b ≡ Equal → a ≡ b
 Equal-same a b e = (bytes_decides a b).0 (texts_ties a b ∙ ap is_eq e)
 
 -- what stands above is what stands below, the other way round
@@ -46,7 +46,7 @@ put_content-All P content (first ∷ others) here all = by (slice_cmp nat_cmp co
     by Greater placed = (all.0, placed)
 
 -- what is above a content is above one that comes before it
-All-above : (a b : List ℕ) (cs : List (List ℕ)) → slice_cmp nat_cmp a b ≡ Less → AllByRecursion (λ c. slice_cmp nat_cmp b c ≡ Less) cs → AllByRecursion (λ c. slice_cmp nat_cmp a c ≡ Less) cs
+pub All-above : (a b : List ℕ) (cs : List (List ℕ)) → slice_cmp nat_cmp a b ≡ Less → AllByRecursion (λ c. slice_cmp nat_cmp b c ≡ Less) cs → AllByRecursion (λ c. slice_cmp nat_cmp a c ≡ Less) cs
 All-above a b [] less all = tt
 All-above a b (c ∷ cs) less all = (nat_list_cmp_total.trans a b c less all.0, All-above a b cs less all.1)
 

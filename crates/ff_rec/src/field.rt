@@ -3,10 +3,18 @@ ghost use Rattle.std.specs.Prelude.{◌≡◌, IfOk};
 ghost use Rattle.ff_rec.specs.Lines.{IsPlain};
 ghost use Rattle.ff_rec.specs.Field.{IsFieldAnswer};
 
+impl Kept for Field {
+    fn copy(&self) -> Result<Field, NoMemory> {
+        Ok(Field {
+            bytes: self.bytes.clone()?,
+        })
+    }
+}
+
 #[cfg(test)]
 mod tests;
 
-use crate::{FieldFault, NoMemory};
+use crate::{FieldFault, Kept, NoMemory};
 use memchr::memchr2;
 use std::alloc::Global;
 use std::marker::Model;

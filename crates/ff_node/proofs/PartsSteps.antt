@@ -1,0 +1,187 @@
+-- Steps of the loops over a comb's parts.
+use Rattle.std.proofs.Common.{◌≡◌, ℕ, zero, suc, ◌+◌, ◌<◌, ◌≤◌, Bool, true, false, if◌then◌else◌, List, [], ◌∷◌, ◌++◌, map, length, take, drop, set, get_or, refl, sym, ap, ap₂, ◌∙◌, append_assoc, append-nil, add-one, arith}
+use Rattle.ff_rec.specs.Lines.{Rec}
+use Rattle.ff_node.specs.Behaviour.{Behaviour}
+use Rattle.ff_node.specs.Sends.{Sent, add}
+use Rattle.ff_node.specs.Comb.{Part, part, parts, given_from, dropped_from, part_from, part_sends, part_rejects, part_after, part_total, part_total_rejects, through, through_rejects, through_after, total, total_rejects}
+use Rattle.ff_node.specs.CombParts.{given_from-append, dropped_from-append, part_from-append, part_sends-total, part_rejects-total}
+use Rattle.ff_node.proofs.SendsLaws.{add-add, add-nothing}
+
+-- each element replaced by what `f` makes of it, one place further
+pub set-mapped : {A : Type 0} (f : A → A) (xs : List A) (i : ℕ) (x : A) → i < length xs → x ≡ get_or (take i (map f xs) ++ drop i xs) i x
+    → set (take i (map f xs) ++ drop i xs) i (f x) ≡ take (suc i) (map f xs) ++ drop (suc i) xs
+set-mapped f [] i x below is = absurd (omega arith)
+set-mapped f (y ∷ ys) zero x below is = ap (λ z. f z ∷ ys) is
+set-mapped f (y ∷ ys) (suc i) x below is = ap (λ zs. f y ∷ zs) (set-mapped f ys i x (omega arith) is)
+
+pub set-mapped_at : {A : Type 0} (f : A → A) (xs ys : List A) (i : ℕ) (x y : A) → ys ≡ take i (map f xs) ++ drop i xs → i < length xs → x ≡ get_or ys i x → y ≡ f x
+    → set ys i y ≡ take (i + 1) (map f xs) ++ drop (i + 1) xs
+set-mapped_at f xs ys i x y so_far below is made =
+    ap₂ (λ zs z. set zs i z) so_far made
+    ∙ set-mapped f xs i x below (is ∙ ap (λ zs. get_or zs i x) so_far)
+    ∙ ap (λ k. take k (map f xs) ++ drop k xs) (sym (add-one i))
+
+module _ {N : Type 0} (b : Behaviour N) where
+  -- what a node sends for a record that ends it
+  pub add-step : (s t : N) (x : Rec) (out mid new : Sent) → t ≡ b.next s x → mid ≡ add out (b.sends s x) (b.rejects s x) → b.ends s x ≡ true
+      → new ≡ add mid (b.last t) (b.last_rejects t) → new ≡ add out (given_from b s (x ∷ [])) (dropped_from b s (x ∷ []))
+  add-step s t x out mid new next sent ends at_end =
+      at_end
+      ∙ ap₂ (λ (o : Sent) (n : N). add o (b.last n) (b.last_rejects n)) sent next
+      ∙ add-add out (b.sends s x) (b.rejects s x) (b.last (b.next s x)) (b.last_rejects (b.next s x))
+      ∙ ap (λ (e : Bool). add out (b.sends s x ++ (if e then b.last (b.next s x) else [])) (b.rejects s x ++ (if e then b.last_rejects (b.next s x) else []))) (sym ends)
+
+  -- a part after a record, and what it sends, with those behind it
+  pub part_after-feed : (s : N) (e : Bool) (x : Rec) (xs all : List Rec) (q : Part N) → e ≡ false → all ≡ x ∷ xs → q ≡ part_from b s (x ∷ [])
+      → part_after b q xs ≡ part_after b (part s e) all
+  part_after-feed s e x xs all q runs whole after =
+      ap (λ p. part_after b p xs) after ∙ part_from-append b s (x ∷ []) xs ∙ sym (ap₂ (λ (f : Bool) us. part_after b (part s f) us) runs whole)
+
+  pub add-feed : (s : N) (e : Bool) (x : Rec) (xs all : List Rec) (q : Part N) (out new : Sent) → e ≡ false → all ≡ x ∷ xs → q ≡ part_from b s (x ∷ [])
+      → new ≡ add out (given_from b s (x ∷ [])) (dropped_from b s (x ∷ []))
+      → add new (part_sends b q xs) (part_rejects b q xs) ≡ add out (part_sends b (part s e) all) (part_rejects b (part s e) all)
+  add-feed s e x xs all q out new runs whole after sent =
+      ap₂ (λ (o : Sent) (p : Part N). add o (part_sends b p xs) (part_rejects b p xs)) sent after
+      ∙ add-add out (given_from b s (x ∷ [])) (dropped_from b s (x ∷ [])) (part_sends b (part_from b s (x ∷ [])) xs) (part_rejects b (part_from b s (x ∷ [])) xs)
+      ∙ ap₂ (add out) (given_from-append b s (x ∷ []) xs) (dropped_from-append b s (x ∷ []) xs)
+      ∙ sym (ap₂ (λ (f : Bool) us. add out (part_sends b (part s f) us) (part_rejects b (part s f) us)) runs whole)
+
+  -- a part's last records and its end
+  pub add-end : (p q : Part N) (us : List Rec) (out mid : Sent) → q ≡ part_after b p us → mid ≡ add out (part_sends b p us) (part_rejects b p us)
+      → add mid (part_total b q []) (part_total_rejects b q []) ≡ add out (part_total b p us) (part_total_rejects b p us)
+  add-end p q us out mid after sent =
+      ap₂ (λ (o : Sent) (r : Part N). add o (part_total b r []) (part_total_rejects b r [])) sent after
+      ∙ add-add out (part_sends b p us) (part_rejects b p us) (part_total b (part_after b p us) []) (part_total_rejects b (part_after b p us) [])
+      ∙ ap₂ (add out)
+      (part_sends-total b p us [] ∙ ap (part_total b p) (append-nil us))
+      (part_rejects-total b p us [] ∙ ap (part_total_rejects b p) (append-nil us))
+
+  pub add-end_runs : (p : Part N) (s : N) (e : Bool) (us : List Rec) (out mid new : Sent) → e ≡ false → part s e ≡ part_after b p us
+      → mid ≡ add out (part_sends b p us) (part_rejects b p us) → new ≡ add mid (b.last s) (b.last_rejects s)
+      → new ≡ add out (part_total b p us) (part_total_rejects b p us)
+  add-end_runs p s e us out mid new runs after sent at_end =
+      at_end
+      ∙ sym (ap (λ (f : Bool). add mid (part_total b (part s f) []) (part_total_rejects b (part s f) [])) runs)
+      ∙ add-end p (part s e) us out mid after sent
+
+  pub add-end_ended : (p : Part N) (s : N) (e : Bool) (us : List Rec) (out mid : Sent) → e ≡ true → part s e ≡ part_after b p us
+      → mid ≡ add out (part_sends b p us) (part_rejects b p us)
+      → mid ≡ add out (part_total b p us) (part_total_rejects b p us)
+  add-end_ended p s e us out mid ended after sent =
+      sym (add-nothing mid)
+      ∙ sym (ap (λ (f : Bool). add mid (part_total b (part s f) []) (part_total_rejects b (part s f) [])) ended)
+      ∙ add-end p (part s e) us out mid after sent
+
+-- what is sent stands aside: the sends are taken out, and the rejects stay
+pub sends-aside : (out mid : Sent) (sends rejects : List Rec) → out.sends ≡ [] → mid ≡ add out sends rejects → mid.sends ≡ sends
+sends-aside out mid sends rejects aside sent = ap (λ (o : Sent). o.sends) sent ∙ ap (λ front. front ++ sends) aside
+
+pub rejects-aside : (out mid new : Sent) (sends rejects : List Rec) → out.sends ≡ [] → mid ≡ add out sends rejects → new ≡ record mid { sends = [] }
+    → new ≡ add out [] rejects
+rejects-aside out mid new sends rejects aside sent swapped =
+    let sending : Sent → List Rec → Sent = λ o us. record o { sends = us } in
+    swapped ∙ ap (λ (o : Sent). sending o []) sent ∙ ap (sending (add out [] rejects)) (sym (append-nil out.sends ∙ aside))
+
+-- a part among the others
+parts-drop : {N : Type 0} (ns : List N) (es : List Bool) (i : ℕ) (n : N) (e : Bool) → i < length ns → length ns ≤ length es
+    → n ≡ get_or ns i n → e ≡ get_or es i false → drop i (parts ns es) ≡ part n e ∷ drop (suc i) (parts ns es)
+parts-drop [] es i n e below flags node_is flag_is = absurd (omega arith)
+parts-drop (m ∷ ns) [] i n e below flags node_is flag_is = absurd (omega arith)
+parts-drop (m ∷ ns) (f ∷ es) zero n e below flags node_is flag_is = ap₂ (λ k g. part k g ∷ parts ns es) (sym node_is) (sym flag_is)
+parts-drop (m ∷ ns) (f ∷ es) (suc i) n e below flags node_is flag_is = parts-drop ns es i n e (omega arith) (omega arith) node_is flag_is
+
+parts-drop_set : {N : Type 0} (ns : List N) (es : List Bool) (i : ℕ) (n : N) (e : Bool)
+    → drop (suc i) (parts (set ns i n) (set es i e)) ≡ drop (suc i) (parts ns es)
+parts-drop_set [] es i n e = refl
+parts-drop_set (m ∷ ns) [] zero n e = refl
+parts-drop_set (m ∷ ns) [] (suc i) n e = parts-drop_set ns [] i n e
+parts-drop_set (m ∷ ns) (f ∷ es) zero n e = refl
+parts-drop_set (m ∷ ns) (f ∷ es) (suc i) n e = parts-drop_set ns es i n e
+
+parts-take_set : {N : Type 0} (ns : List N) (es : List Bool) (i : ℕ) (n : N) (e : Bool) → i < length ns → length ns ≤ length es
+    → take (suc i) (parts (set ns i n) (set es i e)) ≡ take i (parts ns es) ++ part n e ∷ []
+parts-take_set [] es i n e below flags = absurd (omega arith)
+parts-take_set (m ∷ ns) [] i n e below flags = absurd (omega arith)
+parts-take_set (m ∷ ns) (f ∷ es) zero n e below flags = refl
+parts-take_set (m ∷ ns) (f ∷ es) (suc i) n e below flags = ap (λ ps. part m f ∷ ps) (parts-take_set ns es i n e (omega arith) (omega arith))
+
+-- a node that keeps its kind among the others
+pub map-set_same : {A B : Type 0} (f : A → B) (xs : List A) (i : ℕ) (x y : A) → x ≡ get_or xs i x → f y ≡ f x → map f (set xs i y) ≡ map f xs
+map-set_same f [] i x y is same = refl
+map-set_same f (z ∷ zs) zero x y is same = ap (λ v. v ∷ map f zs) (same ∙ ap f is)
+map-set_same f (z ∷ zs) (suc i) x y is same = ap (λ vs. f z ∷ vs) (map-set_same f zs i x y is same)
+
+-- one part of the loop
+module _ {N : Type 0} (b : Behaviour N) (ns : List N) (es : List Bool) (i : ℕ) (n : N) (e : Bool)
+    (below : i < length ns) (flags : length ns ≤ length es) (node_is : n ≡ get_or ns i n) (flag_is : e ≡ get_or es i false) (m : N) (f : Bool) where
+  here : drop i (parts ns es) ≡ part n e ∷ drop (suc i) (parts ns es)
+  here = parts-drop ns es i n e below flags node_is flag_is
+
+  behind : drop (i + 1) (parts (set ns i m) (set es i f)) ≡ drop (suc i) (parts ns es)
+  behind = ap (λ j. drop j (parts (set ns i m) (set es i f))) (add-one i) ∙ parts-drop_set ns es i m f
+
+  pub through-step : (us vs : List Rec) → vs ≡ part_sends b (part n e) us
+      → through b (drop (i + 1) (parts (set ns i m) (set es i f))) vs ≡ through b (drop i (parts ns es)) us
+  through-step us vs sent = ap₂ (through b) behind sent ∙ sym (ap (λ ps. through b ps us) here)
+
+  pub through_rejects-step : (us vs : List Rec) (out new : Sent) → vs ≡ part_sends b (part n e) us → new ≡ add out [] (part_rejects b (part n e) us)
+      → add new [] (through_rejects b (drop (i + 1) (parts (set ns i m) (set es i f))) vs) ≡ add out [] (through_rejects b (drop i (parts ns es)) us)
+  through_rejects-step us vs out new sent rejected =
+      ap (λ (o : Sent). add o [] (through_rejects b (drop (i + 1) (parts (set ns i m) (set es i f))) vs)) rejected
+      ∙ add-add out [] (part_rejects b (part n e) us) [] (through_rejects b (drop (i + 1) (parts (set ns i m) (set es i f))) vs)
+      ∙ ap₂ (λ ps ws. add out [] (part_rejects b (part n e) us ++ through_rejects b ps ws)) behind sent
+      ∙ sym (ap (λ ps. add out [] (through_rejects b ps us)) here)
+
+  pub through_after-step : (us vs : List Rec) → vs ≡ part_sends b (part n e) us → part m f ≡ part_after b (part n e) us
+      → take (i + 1) (parts (set ns i m) (set es i f)) ++ through_after b (drop (i + 1) (parts (set ns i m) (set es i f))) vs
+      ≡ take i (parts ns es) ++ through_after b (drop i (parts ns es)) us
+  through_after-step us vs sent after =
+      ap₂ (λ front ps. front ++ through_after b ps vs)
+      (ap (λ j. take j (parts (set ns i m) (set es i f))) (add-one i) ∙ parts-take_set ns es i m f below flags) behind
+      ∙ append_assoc (take i (parts ns es)) (part m f ∷ []) (through_after b (drop (suc i) (parts ns es)) vs)
+      ∙ ap₂ (λ p ws. take i (parts ns es) ++ p ∷ through_after b (drop (suc i) (parts ns es)) ws) after sent
+      ∙ sym (ap (λ ps. take i (parts ns es) ++ through_after b ps us) here)
+
+  pub total-step : (us vs : List Rec) → vs ≡ part_total b (part n e) us
+      → total b (drop (i + 1) (parts (set ns i m) (set es i f))) vs ≡ total b (drop i (parts ns es)) us
+  total-step us vs sent = ap₂ (total b) behind sent ∙ sym (ap (λ ps. total b ps us) here)
+
+  pub total_rejects-step : (us vs : List Rec) (out new : Sent) → vs ≡ part_total b (part n e) us → new ≡ add out [] (part_total_rejects b (part n e) us)
+      → add new [] (total_rejects b (drop (i + 1) (parts (set ns i m) (set es i f))) vs) ≡ add out [] (total_rejects b (drop i (parts ns es)) us)
+  total_rejects-step us vs out new sent rejected =
+      ap (λ (o : Sent). add o [] (total_rejects b (drop (i + 1) (parts (set ns i m) (set es i f))) vs)) rejected
+      ∙ add-add out [] (part_total_rejects b (part n e) us) [] (total_rejects b (drop (i + 1) (parts (set ns i m) (set es i f))) vs)
+      ∙ ap₂ (λ ps ws. add out [] (part_total_rejects b (part n e) us ++ total_rejects b ps ws)) behind sent
+      ∙ sym (ap (λ ps. add out [] (total_rejects b ps us)) here)
+
+-- no part is left at the end of the loop
+pub parts-drop_all : {N : Type 0} (ns : List N) (es : List Bool) (i : ℕ) → length ns ≤ i → drop i (parts ns es) ≡ []
+parts-drop_all [] es zero all = refl
+parts-drop_all [] es (suc i) all = refl
+parts-drop_all (n ∷ ns) es zero all = absurd (omega arith)
+parts-drop_all (n ∷ ns) [] (suc i) all = parts-drop_all ns [] i (omega arith)
+parts-drop_all (n ∷ ns) (e ∷ es) (suc i) all = parts-drop_all ns es i (omega arith)
+
+pub parts-take_all : {N : Type 0} (ns : List N) (es : List Bool) (i : ℕ) → length ns ≤ i → take i (parts ns es) ≡ parts ns es
+parts-take_all [] es zero all = refl
+parts-take_all [] es (suc i) all = refl
+parts-take_all (n ∷ ns) es zero all = absurd (omega arith)
+parts-take_all (n ∷ ns) [] (suc i) all = ap (λ ps. part n false ∷ ps) (parts-take_all ns [] i (omega arith))
+parts-take_all (n ∷ ns) (e ∷ es) (suc i) all = ap (λ ps. part n e ∷ ps) (parts-take_all ns es i (omega arith))
+
+module _ {N : Type 0} (b : Behaviour N) (ns : List N) (es : List Bool) (i : ℕ) (all : length ns ≤ i) where
+  pub through-done : (us : List Rec) → through b (drop i (parts ns es)) us ≡ us
+  through-done us = ap (λ ps. through b ps us) (parts-drop_all ns es i all)
+
+  pub through_rejects-done : (us : List Rec) (out : Sent) → add out [] (through_rejects b (drop i (parts ns es)) us) ≡ out
+  through_rejects-done us out = ap (λ ps. add out [] (through_rejects b ps us)) (parts-drop_all ns es i all) ∙ add-nothing out
+
+  pub through_after-done : (us : List Rec) → take i (parts ns es) ++ through_after b (drop i (parts ns es)) us ≡ parts ns es
+  through_after-done us =
+      ap₂ (λ front ps. front ++ through_after b ps us) (parts-take_all ns es i all) (parts-drop_all ns es i all) ∙ append-nil (parts ns es)
+
+  pub total-done : (us : List Rec) → total b (drop i (parts ns es)) us ≡ us
+  total-done us = ap (λ ps. total b ps us) (parts-drop_all ns es i all)
+
+  pub total_rejects-done : (us : List Rec) (out : Sent) → add out [] (total_rejects b (drop i (parts ns es)) us) ≡ out
+  total_rejects-done us out = ap (λ ps. add out [] (total_rejects b ps us)) (parts-drop_all ns es i all) ∙ add-nothing out
