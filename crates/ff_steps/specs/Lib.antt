@@ -1,0 +1,9 @@
+pub mod Wiring
+pub mod Parties
+pub mod Core
+pub mod Events
+pub mod Links
+pub mod Moves
+pub mod Lined
+pub mod Rejects
+pub mod Seen
