@@ -1,0 +1,128 @@
+// Many random schedules of one line, whose middle node ends by itself.
+use super::narrow::{Narrow, narrow_of};
+use crate::{Core, run_schedule};
+use ff_node::Records;
+use ff_rec::{Field, Record, print_record};
+use std::alloc::Global;
+use std::process::Abort;
+use std::test::Fail;
+
+// By hand: the first node rejects "bad" and "worse", the middle one ends after "a" and "b", and the last one sends both.
+const INPUT: [&[u8]; 6] = [b"a", b"bad", b"b", b"c", b"worse", b"d"];
+
+const OUTPUT: &[u8] = b"a\nb\n";
+
+const REJECTS: &[u8] = b"bad\nworse\n";
+
+fn line(rt: &impl Abort, alloc: Global, cap: u32) -> Result<Core<Narrow>, Fail> {
+    let mut nodes = Vec::new(alloc);
+    nodes.push(narrow_of(100))?;
+    nodes.push(narrow_of(2))?;
+    nodes.push(narrow_of(100))?;
+    let mut input = Records::new(alloc);
+    for bytes in INPUT {
+        let field = Field::new(alloc, bytes)?;
+        input.push(Record::one(alloc, &field)?)?;
+    }
+    assert!(rt; 1 <= cap && cap <= 4096);
+    Ok(Core::line(alloc, nodes, cap, true, input)?)
+}
+
+// The next number of a xorshift generator.
+fn random(seed: &mut u32) -> u32 {
+    *seed ^= *seed << 13;
+    *seed ^= *seed >> 17;
+    *seed ^= *seed << 5;
+    *seed
+}
+
+// Ten numbers from 0 to 6. The parties are 0 to 4.
+fn ten(seed: &mut u32) -> [u32; 10] {
+    let mut events = [0; 10];
+    for event in &mut events {
+        *event = random(seed) % 7;
+    }
+    events
+}
+
+// The output so far, one record a line.
+fn output(alloc: Global, core: &Core<Narrow>) -> Result<Vec<u8>, Fail> {
+    let mut text = Vec::new(alloc);
+    for k in 0..core.output().len() {
+        if let Some(r) = core.output().get(k) {
+            print_record(r, &mut text)?;
+        }
+    }
+    Ok(text)
+}
+
+// The rejects, which are taken out, one record a line.
+fn rejects(alloc: Global, core: &mut Core<Narrow>) -> Result<Vec<u8>, Fail> {
+    let mut text = Vec::new(alloc);
+    for _ in 0..core.rejected() {
+        if let Some(r) = core.take_reject() {
+            print_record(&r, &mut text)?;
+        }
+    }
+    Ok(text)
+}
+
+// Runs so many random events, and shows after each ten that the output is a beginning of the expected one.
+fn run_tens(
+    rt: &impl Abort,
+    alloc: Global,
+    core: &mut Core<Narrow>,
+    cap: u32,
+    start: u32,
+) -> Result<(), Fail> {
+    let mut seed = start;
+    for _ in 0..20 {
+        run_schedule(core, &ten(&mut seed));
+        let text = output(alloc, core)?;
+        assert!(rt;
+            OUTPUT.starts_with(&text),
+            "capacity {cap}, seed {start}: {text:?}"
+        );
+    }
+    Ok(())
+}
+
+// Sweeps over the parties until all have ended, and answers whether they have.
+fn sweeps(core: &mut Core<Narrow>) -> bool {
+    for _ in 0..100 {
+        if run_schedule(core, &[0, 1, 2, 3, 4]) {
+            return true;
+        }
+    }
+    false
+}
+
+fn runs_to_the_answer(rt: &impl Abort, alloc: Global, cap: u32, seed: u32) -> Result<(), Fail> {
+    let mut core = line(rt, alloc, cap)?;
+    run_tens(rt, alloc, &mut core, cap, seed)?;
+    assert!(rt; sweeps(&mut core), "capacity {cap}, seed {seed}");
+    assert!(rt; !core.short_of_memory(), "capacity {cap}, seed {seed}");
+    assert_eq!(rt;
+        output(alloc, &core)?.as_slice(),
+        OUTPUT,
+        "capacity {cap}, seed {seed}"
+    );
+    assert_eq!(rt; core.rejected(), 2, "capacity {cap}, seed {seed}");
+    assert_eq!(rt;
+        rejects(alloc, &mut core)?.as_slice(),
+        REJECTS,
+        "capacity {cap}, seed {seed}"
+    );
+    assert!(rt; core.take_reject().is_none(), "capacity {cap}, seed {seed}");
+    Ok(())
+}
+
+#[test]
+fn random_schedules_give_the_one_thread_answer(rt: HostRuntime) -> Result<(), Fail> {
+    for cap in [1, 2, 64] {
+        for seed in 1..201 {
+            runs_to_the_answer(&rt, rt.alloc(), cap, seed)?;
+        }
+    }
+    Ok(())
+}
