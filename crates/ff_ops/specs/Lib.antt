@@ -1,0 +1,4 @@
+pub mod Rows
+pub mod NumberOps
+pub mod NumberAnswers
+pub mod NumberLaws
