@@ -13,3 +13,4 @@ pub mod Edits
 pub mod Swaps
 pub mod TabCounts
 pub mod Splits
+pub mod Cases

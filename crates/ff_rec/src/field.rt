@@ -1,15 +1,8 @@
 // One field of a record.
-ghost use Rattle.std.specs.Prelude.{◌≡◌, IfOk};
+ghost use Rattle.std.specs.Prelude.{◌≡◌, map, IfOk};
+ghost use Rattle.std.specs.Char.{to_ascii_uppercase, to_ascii_lowercase};
 ghost use Rattle.ff_rec.specs.Lines.{IsPlain};
 ghost use Rattle.ff_rec.specs.Field.{IsFieldAnswer};
-
-impl Kept for Field {
-    fn copy(&self) -> Result<Field, NoMemory> {
-        Ok(Field {
-            bytes: self.bytes.clone()?,
-        })
-    }
-}
 
 #[cfg(test)]
 mod tests;
@@ -65,5 +58,27 @@ impl Field {
         ensures plain { IsPlain result.now }
     {
         self.bytes.as_slice()
+    }
+
+    /// Its small letters of ASCII become capitals.
+    pub fn make_ascii_uppercase(&mut self)
+        ensures { self.new ≡ map to_ascii_uppercase self.old }
+    {
+        self.bytes.as_mut_slice().make_ascii_uppercase();
+    }
+
+    /// Its capitals of ASCII become small letters.
+    pub fn make_ascii_lowercase(&mut self)
+        ensures { self.new ≡ map to_ascii_lowercase self.old }
+    {
+        self.bytes.as_mut_slice().make_ascii_lowercase();
+    }
+}
+
+impl Kept for Field {
+    fn copy(&self) -> Result<Field, NoMemory> {
+        Ok(Field {
+            bytes: self.bytes.clone()?,
+        })
     }
 }

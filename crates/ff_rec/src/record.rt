@@ -51,6 +51,17 @@ impl Record {
         })
     }
 
+    /// The record of one field of these bytes.
+    pub fn of_plain(alloc: Global, bytes: &[u8]) -> Result<Record, NoMemory>
+        requires { IsPlain bytes.now }
+        ensures { IfOk result (λ r. r ≡ bytes.now ∷ []) }
+    {
+        Ok(Record {
+            block: Vec::from_slice(alloc, bytes)?,
+            count: 1,
+        })
+    }
+
     /// A line, without its newline, cut at its tabs.
     pub fn of_line(alloc: Global, line: &[u8]) -> Result<Record, CutFault>
         requires { Lacks 10 line.now }
@@ -87,6 +98,11 @@ impl Record {
         let block = self.block.as_slice();
         let (start, end) = place(block, self.count, k - 1);
         Some(&block[start..end])
+    }
+
+    /// Where its memory comes from.
+    pub fn allocator(&self) -> Global {
+        *self.block.allocator()
     }
 
     /// The fields joined by single tabs.

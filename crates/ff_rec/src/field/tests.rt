@@ -20,3 +20,16 @@ fn holds_any_other_byte(rt: HostRuntime) -> Result<(), Fail> {
     }
     Ok(())
 }
+
+#[test]
+fn changes_the_case_of_a_copy(rt: HostRuntime) -> Result<(), Fail> {
+    let field = Field::new(rt.alloc(), "@azAZ`[{é".as_bytes())?;
+    let mut upper = field.copy()?;
+    upper.make_ascii_uppercase();
+    assert_eq!(rt; upper.bytes(), "@AZAZ`[{é".as_bytes());
+    let mut lower = field.copy()?;
+    lower.make_ascii_lowercase();
+    assert_eq!(rt; lower.bytes(), "@azaz`[{é".as_bytes());
+    assert_eq!(rt; field.bytes(), "@azAZ`[{é".as_bytes());
+    Ok(())
+}

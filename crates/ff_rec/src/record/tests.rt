@@ -140,3 +140,16 @@ fn fields_come_go_and_change_places(rt: HostRuntime) -> Result<(), Fail> {
     assert_eq!(rt; r.len(), 1);
     Ok(())
 }
+
+#[test]
+fn a_record_of_a_part_of_another(rt: HostRuntime) -> Result<(), Fail> {
+    let r = Record::of_line(rt.alloc(), split(b"ab\tc", b'\n').0)?;
+    match r.field(1) {
+        Some(bytes) => assert_eq!(rt;
+            Record::of_plain(r.allocator(), bytes)?.joined(),
+            b"ab".as_slice()
+        ),
+        None => panic!(rt; "no first field"),
+    }
+    Ok(())
+}

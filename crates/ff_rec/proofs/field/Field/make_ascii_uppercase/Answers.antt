@@ -1,0 +1,13 @@
+-- No capital is a tab or a newline.
+use Rattle.std.proofs.Common.{map, sym, subst, ap, ◌∙◌, arith}
+use Rattle.std.proofs.lemmas.List.{with_items_is}
+use Rattle.std.specs.Char.{to_ascii_uppercase}
+use Rattle.ff_rec.specs.Lines.{IsPlain}
+use Rattle.ff_rec.proofs.Cases.{IsPlain-uppercase}
+use Rattle.ff_rec.proofs.field.Field.make_ascii_uppercase.Goals as goal
+
+pub invariant_of-self : goal.invariant_of-self
+invariant_of-self c =
+    let written = with_items_is c.self.inside.bytes c.make_ascii_uppercase.new.self (omega (arith, c.make_ascii_uppercase.auto.self, c.as_mut_slice.ensures.len)) in
+    let same = written ∙ c.make_ascii_uppercase.ensures.after ∙ ap (map to_ascii_uppercase) c.as_mut_slice.ensures.value in
+    subst IsPlain (sym same) (IsPlain-uppercase c.self.inside.bytes.items c.self.invariant)

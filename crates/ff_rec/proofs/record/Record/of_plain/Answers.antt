@@ -1,0 +1,14 @@
+-- Plain bytes are one field.
+use Rattle.std.proofs.Common.{sym, subst, ap, ◌∙◌}
+use Rattle.ff_rec.specs.Lines.{cut}
+use Rattle.ff_rec.specs.Block.{IsBlock}
+use Rattle.ff_rec.proofs.Joins.{cut-IsPlain}
+use Rattle.ff_rec.proofs.Places.{IsBlock-field}
+use Rattle.ff_rec.proofs.record.Record.of_plain.Goals as goal
+
+pub invariant_of-result : goal.invariant_of-result
+invariant_of-result c = subst (λ b. IsBlock b 1) (sym c.in_ok-from_slice.ensures.items) (IsBlock-field c.args.bytes.now c.requires)
+
+pub returns : goal.returns
+returns c =
+    ap (cut 9) c.in_ok-from_slice.ensures.items ∙ cut-IsPlain c.args.bytes.now c.requires
