@@ -1,1 +1,5 @@
 pub mod NumberAnswers
+pub mod Finding
+pub mod Wording
+pub mod FoldLists
+mod KeyPlaces

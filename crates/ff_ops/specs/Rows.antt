@@ -1,6 +1,5 @@
 -- Words that the rows of the operations share.
-use Rattle.std.specs.Prelude.{ℕ, suc, ◌+◌, ◌-◌, ◌^◌, nat_lt, Bool, cond, if◌then◌else◌, List, [], ◌∷◌, slice_set, Option, None, Some, option_and_then, ℤ, pos, negsuc}
-use Rattle.std.specs.Option.{option_map}
+use Rattle.std.specs.Prelude.{ℕ, ◌-◌, ◌^◌, nat_lt, Bool, if◌then◌else◌, List, [], ◌∷◌, slice_set, Option, None, Some, option_and_then, ℤ, pos, negsuc}
 use Rattle.ff_rec.specs.Fields.{field_at}
 use Rattle.ff_rec.specs.Lines.{Rec}
 use Rattle.ff_rec.specs.Number.{number, printed}

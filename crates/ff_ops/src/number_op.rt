@@ -10,10 +10,11 @@ mod arithmetic;
 #[cfg(test)]
 mod tests;
 
+use crate::numbers::number_at;
 use answer::Answer;
 use arithmetic::{difference, halves, negated, product, quotient, remainder, sum};
 use ff_node::{Class, Cmp, Next, Node, Sends};
-use ff_rec::{NoMemory, Record, read_number};
+use ff_rec::{NoMemory, Record};
 
 /// An operation that works on the number in a field. It rejects a record whose field isn't there or isn't a number, or
 /// whose result is out of range.
@@ -71,7 +72,7 @@ impl NumberOp {
                 let (half, rest) = halves(x);
                 Some(Answer::Halves(half, rest))
             }
-            NumberOp::Plus(_, other) => becomes(sum(x, number_in(r, other)?)),
+            NumberOp::Plus(_, other) => becomes(sum(x, number_at(r, other)?)),
         }
     }
 
@@ -81,18 +82,9 @@ impl NumberOp {
         ensures low { OnSome result (1 ≤ field_of self.now) }
         ensures high { OnSome result (field_of self.now ≤ length r.now) }
     {
-        let x = number_in(r, self.field())?;
+        let x = number_at(r, self.field())?;
         self.answer(r, x)
     }
-}
-
-// The number in a field.
-fn number_in(r: &Record, field: usize) -> Option<i64>
-    ensures number { result ≡ number_in field r.now }
-    ensures low { OnSome result (1 ≤ field) }
-    ensures high { OnSome result (field ≤ length r.now) }
-{
-    read_number(r.field(field)?)
 }
 
 // The answer that a number takes the place of the one in the field, where there is one.
