@@ -3,3 +3,4 @@ pub mod Finding
 pub mod Wording
 pub mod FoldLists
 mod KeyPlaces
+mod Copies

@@ -1,4 +1,6 @@
 pub mod Rows
+pub mod Arguments
+pub mod Table
 pub mod NumberOps
 pub mod NumberAnswers
 pub mod NumberLaws
@@ -18,3 +20,8 @@ pub mod KeyedFolds
 pub mod KeyedTakes
 pub mod KeyedOpLaws
 pub mod Places
+pub mod Families
+pub mod Parts
+pub mod FamilyLaws
+pub mod Operation
+pub mod OperationLaws
