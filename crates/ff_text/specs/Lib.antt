@@ -1,0 +1,6 @@
+pub mod Tokens
+pub mod Classes
+pub mod Cutting
+pub mod Seen
+pub mod Printing
+pub mod CutLaws

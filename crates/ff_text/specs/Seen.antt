@@ -1,0 +1,31 @@
+-- The code's tokens, as the definitions see them.
+use Rattle.std.specs.Prelude.{List, []}
+use Rattle.std.specs.Option.{option_map}
+use Rattle.ff_text.specs.declared.token.Token.{Token as Borrowed}
+use Rattle.ff_text.specs.declared.token.Token.TheVariants.{Word as BorrowedWord, Number as BorrowedNumber, Sign as BorrowedSign, Quoted as BorrowedQuoted, Bad as BorrowedBad, Stop as BorrowedStop}
+use Rattle.ff_text.specs.declared.token.Spot.{Spot as BorrowedSpot}
+use Rattle.ff_text.specs.declared.lexeme.Lexeme.{Lexeme as BorrowedLexeme}
+use Rattle.ff_text.specs.Tokens.{Token, Word, Number, Sign, Quoted, Bad, Stop, Spot}
+use Rattle.ff_text.specs.Cutting.{Lexeme}
+
+-- what a token is
+abbrev pub token_of : Borrowed → Token
+token_of (BorrowedWord bytes) = Word bytes.now
+token_of (BorrowedNumber value) = Number value
+token_of (BorrowedSign mark) = Sign mark
+token_of (BorrowedQuoted bytes) = Quoted bytes.now
+token_of BorrowedBad = Bad
+token_of BorrowedStop = Stop
+
+-- a token at its place
+abbrev pub spot_of : BorrowedSpot → Spot
+spot_of spot = record { token = token_of spot.token; at = spot.at }
+
+-- a token or a gap, and its length
+abbrev pub seen : BorrowedLexeme → Lexeme
+seen lexeme = record { token = option_map token_of lexeme.token; more = lexeme.more }
+
+-- what stands ahead behind a spot: where it is the last, nothing
+abbrev pub behind : Token → List Spot → List Spot
+behind Stop spots = []
+behind _ spots = spots

@@ -1,0 +1,22 @@
+// What holds of the words of this crate's contracts, whatever the call.
+ghost use Rattle.ff_text.specs.CutLaws.{CutsFrontFirst, StopsAtItsEnd};
+ghost use Rattle.ff_text.specs.Printing.{PrintedIsCut};
+
+use ff_rec::printed_numbers_are_read;
+
+/// What stands at the front of a text comes first, and then what is cut from the bytes behind it.
+pub fn texts_are_cut_from_the_front()
+    ensures { CutsFrontFirst }
+{}
+
+/// `Stop` is the last spot of each text, at its length, and no other.
+pub fn texts_stop_at_their_end()
+    ensures { StopsAtItsEnd }
+{}
+
+/// Pieces that are printed apart are cut into the tokens that they were.
+pub fn printed_pieces_are_cut_into_them()
+    ensures { PrintedIsCut }
+{
+    printed_numbers_are_read();
+}

@@ -1,0 +1,16 @@
+//! Texts of networks: how they are cut into tokens.
+#![tactic(auto)]
+
+mod class;
+mod laws;
+mod lexeme;
+mod mark;
+mod reader;
+mod token;
+
+pub use laws::{
+    printed_pieces_are_cut_into_them, texts_are_cut_from_the_front, texts_stop_at_their_end,
+};
+pub use mark::Mark;
+pub use reader::Reader;
+pub use token::{Spot, Token};
