@@ -14,3 +14,7 @@ pub mod Swaps
 pub mod TabCounts
 pub mod Splits
 pub mod Cases
+pub mod LineLimits
+pub mod Feeding
+pub mod Steps
+pub mod WholeTexts

@@ -8,3 +8,6 @@ pub mod Times
 pub mod Contents
 pub mod Block
 pub mod Streams
+pub mod Reading
+pub mod Limits
+pub mod Progress

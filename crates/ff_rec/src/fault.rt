@@ -32,6 +32,24 @@ pub enum CutFault {
     NoMemory,
 }
 
+/// The first limit of a text that was passed. Lines are counted from 1.
+#[derive(Clone, Copy, Debug, PartialEq, Eq, Hash)]
+pub enum LineFault {
+    /// This line has more bytes than a line may have, its newline not counted.
+    TooLong(u64),
+    /// This line has more than 63 tabs.
+    TooManyFields(u64),
+    /// The text has more bytes than it may have.
+    InputTooLong,
+}
+
+/// Why no more pieces of a text are read.
+#[derive(Clone, Copy, Debug, PartialEq, Eq, Hash)]
+pub enum FeedFault {
+    Line(LineFault),
+    NoMemory,
+}
+
 impl From<AllocError> for NoMemory {
     fn from(_: AllocError) -> Self {
         NoMemory
@@ -41,6 +59,12 @@ impl From<AllocError> for NoMemory {
 impl<T: Drop> From<AllocFailed<T>> for NoMemory {
     fn from(_: AllocFailed<T>) -> Self {
         NoMemory
+    }
+}
+
+impl From<NoMemory> for FeedFault {
+    fn from(_: NoMemory) -> Self {
+        FeedFault::NoMemory
     }
 }
 

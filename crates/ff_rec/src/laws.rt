@@ -1,5 +1,6 @@
 // What holds of the words of this crate's contracts, whatever the call.
 ghost use Rattle.ff_rec.specs.Contents.{ContentsLaw};
+ghost use Rattle.ff_rec.specs.Limits.{ReadingLaw};
 ghost use Rattle.ff_rec.specs.Number.{PrintedIsRead};
 ghost use Rattle.ff_rec.specs.Times.{SameIsCounts};
 
@@ -16,4 +17,9 @@ pub fn same_is_each_record_as_often()
 /// `contents` is just what occurs in the field, in byte order, each content once.
 pub fn contents_rise_and_are_what_occurs()
     ensures { ContentsLaw }
+{}
+
+/// What a `LineReader` reads of a text in pieces is the text cut at its newlines, up to the first limit that it passes.
+pub fn reading_is_cutting()
+    ensures { ReadingLaw }
 {}

@@ -5,17 +5,20 @@ mod block;
 mod fault;
 mod field;
 mod laws;
+mod line_reader;
 mod msg;
 mod number;
 mod pieces;
 mod record;
 mod tabs;
 
-pub use fault::{CutFault, FieldFault, Kept, NoMemory, PushFault};
+pub use fault::{CutFault, FeedFault, FieldFault, Kept, LineFault, NoMemory, PushFault};
 pub use field::Field;
 pub use laws::{
-    contents_rise_and_are_what_occurs, printed_numbers_are_read, same_is_each_record_as_often,
+    contents_rise_and_are_what_occurs, printed_numbers_are_read, reading_is_cutting,
+    same_is_each_record_as_often,
 };
+pub use line_reader::LineReader;
 pub use msg::Msg;
 pub use number::{print_number, read_number};
 pub use pieces::split;

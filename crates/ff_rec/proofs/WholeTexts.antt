@@ -1,0 +1,329 @@
+-- Reading byte by byte is cutting the text at its newlines, up to the first limit that it passes.
+use Rattle.std.proofs.Common.{◌≡◌, ◌≢◌, ◌⊎◌, inl, inr, ℕ, zero, suc, ◌+◌, ◌-◌, ◌<◌, ◌≤◌, Bool, true, false, ltb, leb, eqb, cond, List, [], ◌∷◌, ◌++◌, length, take, map, Option, None, Some, refl, sym, ap, ap₂, ◌∙◌, subst, arith, append_assoc, lt-ltb, eqb-true, eq-eqb}
+use Rattle.std.proofs.lemmas.Bool.{cond-true, cond-false, ltb-true, ltb-false, leb-true, leb-false, le-ltb, both_ways, cases_lt}
+use Rattle.std.proofs.Math.Dec.{leb-suc-suc}
+use Rattle.std.proofs.lemmas.List.{append-nil}
+use Rattle.std.specs.Prelude.{option_map}
+use Rattle.ff_rec.specs.declared.fault.LineFault.{LineFault}
+use Rattle.ff_rec.specs.declared.fault.LineFault.TheVariants.{TooLong, TooManyFields, InputTooLong}
+use Rattle.ff_rec.specs.declared.fault.FeedFault.{FeedFault}
+use Rattle.ff_rec.specs.declared.fault.FeedFault.TheVariants.{Line}
+use Rattle.ff_rec.specs.Lines.{Rec, cut, without_last, without_empty_last, lines, whole_lines, records, whole}
+use Rattle.ff_rec.specs.Limits.{or_later, lines_fault, input_fault, limit, seen_by, seen, IsCut, ReadingLaw}
+use Rattle.ff_rec.specs.Pieces.{Lacks}
+use Rattle.ff_rec.specs.Reading.{Reading, line_fault, reading, opening, refused, after, given, last_given}
+use Rattle.ff_rec.proofs.Cuts.{cut-Lacks, cut-split}
+use Rattle.ff_rec.proofs.Joins.{HasFirst, HasFirst-cut}
+use Rattle.ff_rec.proofs.LineLimits.{line_fault-append, line_fault-within, line_fault-cases, line_fault-number, IsOfLine, long, many, Lacks-append}
+use Rattle.ff_rec.proofs.Feeding.{after-newline, given-newline, after-other, given-other, after-fault, given-fault, byte_fault-full, byte_fault-other}
+
+without_empty_last-more : (p q : List ℕ) (qs : List (List ℕ)) → without_empty_last (p ∷ q ∷ qs) ≡ p ∷ without_empty_last (q ∷ qs)
+without_empty_last-more [] q qs = refl
+without_empty_last-more (c ∷ cs) q qs = refl
+
+-- the lines of a line, its newline and more
+lines-newline : (line rest : List ℕ) → Lacks 10 line → lines (line ++ 10 ∷ rest) ≡ line ∷ lines rest
+lines-newline line rest clean =
+    let h = HasFirst-cut 10 rest in
+    ap without_empty_last (cut-split 10 line rest clean ∙ ap (λ (ps : List (List ℕ)). line ∷ ps) h.is)
+    ∙ without_empty_last-more line h.first h.others
+    ∙ ap (λ (ps : List (List ℕ)). line ∷ without_empty_last ps) (sym h.is)
+
+whole_lines-newline : (line rest : List ℕ) → Lacks 10 line → whole_lines (line ++ 10 ∷ rest) ≡ line ∷ whole_lines rest
+whole_lines-newline line rest clean =
+    let h = HasFirst-cut 10 rest in
+    ap without_last (cut-split 10 line rest clean ∙ ap (λ (ps : List (List ℕ)). line ∷ ps) h.is)
+    ∙ ap (λ (ps : List (List ℕ)). line ∷ without_last ps) (sym h.is)
+
+records-newline : (line rest : List ℕ) → Lacks 10 line → records (line ++ 10 ∷ rest) ≡ cut 9 line ∷ records rest
+records-newline line rest clean = ap (map (cut 9)) (lines-newline line rest clean)
+
+whole-newline : (line rest : List ℕ) → Lacks 10 line → whole (line ++ 10 ∷ rest) ≡ cut 9 line ∷ whole rest
+whole-newline line rest clean = ap (map (cut 9)) (whole_lines-newline line rest clean)
+
+-- a line without a newline
+whole-Lacks : (line : List ℕ) → Lacks 10 line → whole line ≡ []
+whole-Lacks line clean = ap (λ (ps : List (List ℕ)). map (cut 9) (without_last ps)) (cut-Lacks 10 line clean)
+
+records-Lacks : (line : List ℕ) → Lacks 10 line → records line ≡ last_given line
+records-Lacks [] clean = refl
+records-Lacks (c ∷ cs) clean = ap (λ (ps : List (List ℕ)). map (cut 9) (without_empty_last ps)) (cut-Lacks 10 (c ∷ cs) clean)
+
+-- its limits are those of the only line
+lines_fault-line : (l n : ℕ) (line : List ℕ) → Lacks 10 line → line_fault l n line ≡ None → lines_fault l n (lines line) ≡ None
+lines_fault-line l n [] clean fits = refl
+lines_fault-line l n (c ∷ cs) clean fits =
+    ap (λ (ps : List (List ℕ)). lines_fault l n (without_empty_last ps)) (cut-Lacks 10 (c ∷ cs) clean) ∙ ap (λ (o : Option LineFault). or_later o None) fits
+
+-- a first line that passes a limit, whatever stands behind it
+lines_fault-first : (l n : ℕ) (line rest : List ℕ) (f : LineFault) → Lacks 10 line → line_fault l n line ≡ Some f → lines_fault l n (lines (line ++ rest)) ≡ Some f
+lines_fault-first l n [] rest f clean is = let e : line_fault l n [] ≡ None = line_fault-within l n [] (omega arith) (omega arith) in cc
+lines_fault-first l n (b ∷ bs) [] f clean is =
+    ap (λ (line : List ℕ). lines_fault l n (lines line)) (append-nil (b ∷ bs))
+    ∙ ap (λ (ps : List (List ℕ)). lines_fault l n (without_empty_last ps)) (cut-Lacks 10 (b ∷ bs) clean)
+    ∙ ap (λ (o : Option LineFault). or_later o None) is
+lines_fault-first l n (b ∷ bs) (c ∷ cs) f clean is =
+    by (eqb c 10) refl
+    (λ other. lines_fault-first l n ((b ∷ bs) ++ c ∷ []) cs f (Lacks-append 10 (b ∷ bs) (c ∷ []) clean (other, tt)) (line_fault-append l n (b ∷ bs) (c ∷ []) f is))
+  where
+    by : (e : Bool) → eqb c 10 ≡ e
+        → (c ≢ 10 → lines_fault l n (lines (((b ∷ bs) ++ c ∷ []) ++ cs)) ≡ Some f)
+        → lines_fault l n (lines ((b ∷ bs) ++ c ∷ cs)) ≡ Some f
+    by true newline more =
+        ap (λ k. lines_fault l n (lines ((b ∷ bs) ++ k ∷ cs))) (eqb-true c 10 newline)
+        ∙ ap (lines_fault l n) (lines-newline (b ∷ bs) cs clean)
+        ∙ ap (λ (o : Option LineFault). or_later o (lines_fault l (n + 1) (lines cs))) is
+    by false other more =
+        ap (λ (line : List ℕ). lines_fault l n (lines line)) (sym (append_assoc (b ∷ bs) (c ∷ []) cs))
+        ∙ more (λ is10. both_ways (eqb c 10) other (eq-eqb c 10 is10))
+
+-- no line before number `n` is named
+abbrev IsFrom : ℕ → Option LineFault → Type 0
+IsFrom n None = Unit {0}
+IsFrom n (Some (TooLong m)) = n ≤ m
+IsFrom n (Some (TooManyFields m)) = n ≤ m
+IsFrom n (Some InputTooLong) = Unit {0}
+
+IsFrom-less : (n k : ℕ) (o : Option LineFault) → n ≤ k → IsFrom k o → IsFrom n o
+IsFrom-less n k None le h = tt
+IsFrom-less n k (Some (TooLong m)) le h = omega arith
+IsFrom-less n k (Some (TooManyFields m)) le h = omega arith
+IsFrom-less n k (Some InputTooLong) le h = tt
+
+IsFrom-or_later : (n : ℕ) (o later : Option LineFault) → IsFrom n o → IsFrom n later → IsFrom n (or_later o later)
+IsFrom-or_later n None later h g = g
+IsFrom-or_later n (Some f) later h g = h
+
+IsFrom-lines_fault : (l n : ℕ) (ls : List (List ℕ)) → IsFrom n (lines_fault l n ls)
+IsFrom-lines_fault l n [] = tt
+IsFrom-lines_fault l n (line ∷ others) =
+    IsFrom-or_later n (line_fault l n line) (lines_fault l (n + 1) others)
+    (line_fault-cases l n line (IsFrom n) (λ h. omega arith) (λ h g. omega arith) (λ h g. tt))
+    (IsFrom-less n (n + 1) (lines_fault l (n + 1) others) (omega arith) (IsFrom-lines_fault l (n + 1) others))
+
+IsFrom-input_fault : (n room : ℕ) (b : List ℕ) → IsFrom n (input_fault room b)
+IsFrom-input_fault n room b = by (ltb room (length b))
+  where
+    by : (e : Bool) → IsFrom n (cond e (Some InputTooLong) None)
+    by true = tt
+    by false = tt
+
+-- the first limit that a text passes from a place on
+abbrev first_limit : ℕ → ℕ → ℕ → ℕ → List ℕ → List ℕ → Option LineFault
+first_limit l i t n line b = or_later (lines_fault l (n + 1) (lines (line ++ take (i - t) b))) (input_fault (i - t) b)
+
+take-nil : (k : ℕ) → take {A = ℕ} k [] ≡ []
+take-nil zero = refl
+take-nil (suc k) = refl
+
+-- nothing is left: no limit
+first_limit-end : (l i t n : ℕ) (line : List ℕ) → Lacks 10 line → line_fault l (n + 1) line ≡ None → first_limit l i t n line [] ≡ None
+first_limit-end l i t n line clean fits =
+    ap (λ (bs : List ℕ). or_later (lines_fault l (n + 1) (lines (line ++ bs))) (input_fault (i - t) [])) (take-nil (i - t))
+    ∙ ap (λ (bs : List ℕ). or_later (lines_fault l (n + 1) (lines bs)) (input_fault (i - t) [])) (append-nil line)
+    ∙ ap (λ (o : Option LineFault). or_later o (input_fault (i - t) [])) (lines_fault-line l (n + 1) line clean fits)
+    ∙ cond-false _ _ _ (le-ltb (i - t) 0 (omega arith))
+
+-- no room is left: the limit of the input
+first_limit-full : (l i t n : ℕ) (line : List ℕ) (c : ℕ) (cs : List ℕ) → i ≤ t → Lacks 10 line → line_fault l (n + 1) line ≡ None
+    → first_limit l i t n line (c ∷ cs) ≡ Some InputTooLong
+first_limit-full l i t n line c cs full clean fits =
+    let e : i - t ≡ 0 = omega arith in
+    ap (λ k. or_later (lines_fault l (n + 1) (lines (line ++ take k (c ∷ cs)))) (input_fault k (c ∷ cs))) e
+    ∙ ap (λ (bs : List ℕ). or_later (lines_fault l (n + 1) (lines bs)) (input_fault 0 (c ∷ cs))) (append-nil line)
+    ∙ ap (λ (o : Option LineFault). or_later o (input_fault 0 (c ∷ cs))) (lines_fault-line l (n + 1) line clean fits)
+    ∙ cond-true _ _ _ (lt-ltb 0 (length (c ∷ cs)) (omega arith))
+
+input_fault-more : (room : ℕ) (c : ℕ) (cs : List ℕ) → input_fault (suc room) (c ∷ cs) ≡ input_fault room cs
+input_fault-more room c cs = ap (λ b. cond b (Some InputTooLong) None) (leb-suc-suc (suc room) (length cs))
+
+-- there is room for a byte
+first_limit-room : (l i t n : ℕ) (line : List ℕ) (c : ℕ) (cs : List ℕ) → t < i
+    → first_limit l i t n line (c ∷ cs) ≡ or_later (lines_fault l (n + 1) (lines (line ++ c ∷ take (i - (t + 1)) cs))) (input_fault (i - (t + 1)) cs)
+first_limit-room l i t n line c cs room =
+    let e : i - t ≡ suc (i - (t + 1)) = omega arith in
+    ap (λ k. or_later (lines_fault l (n + 1) (lines (line ++ take k (c ∷ cs)))) (input_fault k (c ∷ cs))) e
+    ∙ ap (or_later (lines_fault l (n + 1) (lines (line ++ c ∷ take (i - (t + 1)) cs)))) (input_fault-more (i - (t + 1)) c cs)
+
+first_limit-newline : (l i t n : ℕ) (line cs : List ℕ) → t < i → Lacks 10 line → line_fault l (n + 1) line ≡ None
+    → first_limit l i t n line (10 ∷ cs) ≡ first_limit l i (t + 1) (n + 1) [] cs
+first_limit-newline l i t n line cs room clean fits =
+    let rest = take (i - (t + 1)) cs in
+    first_limit-room l i t n line 10 cs room
+    ∙ ap (λ (ls : List (List ℕ)). or_later (lines_fault l (n + 1) ls) (input_fault (i - (t + 1)) cs)) (lines-newline line rest clean)
+    ∙ ap (λ (o : Option LineFault). or_later (or_later o (lines_fault l (n + 1 + 1) (lines rest))) (input_fault (i - (t + 1)) cs)) fits
+
+first_limit-other : (l i t n : ℕ) (line : List ℕ) (c : ℕ) (cs : List ℕ) → t < i
+    → first_limit l i t n line (c ∷ cs) ≡ first_limit l i (t + 1) n (line ++ c ∷ []) cs
+first_limit-other l i t n line c cs room =
+    let rest = take (i - (t + 1)) cs in
+    first_limit-room l i t n line c cs room
+    ∙ ap (λ (bs : List ℕ). or_later (lines_fault l (n + 1) (lines bs)) (input_fault (i - (t + 1)) cs)) (sym (append_assoc line (c ∷ []) rest))
+
+first_limit-fault : (l i t n : ℕ) (line : List ℕ) (c : ℕ) (cs : List ℕ) (f : LineFault) → t < i → Lacks 10 line → c ≢ 10
+    → line_fault l (n + 1) (line ++ c ∷ []) ≡ Some f → first_limit l i t n line (c ∷ cs) ≡ Some f
+first_limit-fault l i t n line c cs f room clean other is =
+    first_limit-other l i t n line c cs room
+    ∙ ap (λ (o : Option LineFault). or_later o (input_fault (i - (t + 1)) cs))
+    (lines_fault-first l (n + 1) (line ++ c ∷ []) (take (i - (t + 1)) cs) f (Lacks-append 10 line (c ∷ []) clean (other, tt)) is)
+
+-- what is read from a place on, by the first limit that is passed there
+seen_from : Option LineFault → Bool → ℕ → ℕ → List ℕ → List ℕ → List Rec
+seen_from None ended room n line b = cond ended (records (line ++ b)) (whole (line ++ b))
+seen_from (Some (TooLong m)) ended room n line b = take (m - (n + 1)) (records (line ++ b))
+seen_from (Some (TooManyFields m)) ended room n line b = take (m - (n + 1)) (records (line ++ b))
+seen_from (Some InputTooLong) ended room n line b = whole (line ++ take room b)
+
+seen_from-newline : (o : Option LineFault) (ended : Bool) (k room n : ℕ) (line cs : List ℕ) → Lacks 10 line → k ≡ suc room → IsFrom (n + 1 + 1) o
+    → seen_from o ended k n line (10 ∷ cs) ≡ cut 9 line ∷ seen_from o ended room (n + 1) [] cs
+unfolding seen_from
+seen_from-newline None true k room n line cs clean e later = records-newline line cs clean
+seen_from-newline None false k room n line cs clean e later = whole-newline line cs clean
+seen_from-newline (Some (TooLong m)) ended k room n line cs clean e later =
+    ap (take (m - (n + 1))) (records-newline line cs clean)
+    ∙ ap (λ j. take j (cut 9 line ∷ records cs)) (let d : m - (n + 1) ≡ suc (m - (n + 1 + 1)) = omega arith in d)
+seen_from-newline (Some (TooManyFields m)) ended k room n line cs clean e later =
+    ap (take (m - (n + 1))) (records-newline line cs clean)
+    ∙ ap (λ j. take j (cut 9 line ∷ records cs)) (let d : m - (n + 1) ≡ suc (m - (n + 1 + 1)) = omega arith in d)
+seen_from-newline (Some InputTooLong) ended k room n line cs clean e later =
+    ap (λ j. whole (line ++ take j (10 ∷ cs))) e ∙ whole-newline line (take room cs) clean
+
+seen_from-other : (o : Option LineFault) (ended : Bool) (k room n : ℕ) (line : List ℕ) (c : ℕ) (cs : List ℕ) → k ≡ suc room
+    → seen_from o ended k n line (c ∷ cs) ≡ seen_from o ended room n (line ++ c ∷ []) cs
+unfolding seen_from
+seen_from-other None true k room n line c cs e = ap records (sym (append_assoc line (c ∷ []) cs))
+seen_from-other None false k room n line c cs e = ap whole (sym (append_assoc line (c ∷ []) cs))
+seen_from-other (Some (TooLong m)) ended k room n line c cs e = ap (λ (bs : List ℕ). take (m - (n + 1)) (records bs)) (sym (append_assoc line (c ∷ []) cs))
+seen_from-other (Some (TooManyFields m)) ended k room n line c cs e = ap (λ (bs : List ℕ). take (m - (n + 1)) (records bs)) (sym (append_assoc line (c ∷ []) cs))
+seen_from-other (Some InputTooLong) ended k room n line c cs e =
+    ap (λ j. whole (line ++ take j (c ∷ cs))) e ∙ ap whole (sym (append_assoc line (c ∷ []) (take room cs)))
+
+seen_from-here : (n : ℕ) (f : LineFault) (ended : Bool) (room : ℕ) (line b : List ℕ) → IsOfLine (n + 1) f → seen_from (Some f) ended room n line b ≡ []
+unfolding seen_from
+seen_from-here n f ended room line b long = ap (λ k. take k (records (line ++ b))) (let e : n + 1 - (n + 1) ≡ 0 = omega arith in e)
+seen_from-here n f ended room line b many = ap (λ k. take k (records (line ++ b))) (let e : n + 1 - (n + 1) ≡ 0 = omega arith in e)
+
+-- reading on from a place is cutting what stands there
+record IsCutFrom (o : Option LineFault) (l i t n : ℕ) (line b : List ℕ) : Type 0 where
+  fault : (after (reading l i t n line) b).fault ≡ option_map Line o
+  going : given (reading l i t n line) b ≡ seen_from o false (i - t) n line b
+  at_end : given (reading l i t n line) b ++ last_given (after (reading l i t n line) b).line ≡ seen_from o true (i - t) n line b
+
+-- the same, by the first limit, of a byte and those behind it
+abbrev CutHere : ℕ → ℕ → ℕ → ℕ → List ℕ → ℕ → List ℕ → Type 0
+CutHere l i t n line b cs = IsCutFrom (first_limit l i t n line (b ∷ cs)) l i t n line (b ∷ cs)
+
+module _ (l i t n : ℕ) (line : List ℕ) (clean : Lacks 10 line) (fits : line_fault l (n + 1) line ≡ None) where
+  cut-end : IsCutFrom None l i t n line []
+  unfolding seen_from
+  cut-end = record {
+    fault = refl;
+    going = sym (ap whole (append-nil line) ∙ whole-Lacks line clean);
+    at_end = sym (ap records (append-nil line) ∙ records-Lacks line clean);
+  }
+
+  cut-full : (c : ℕ) (cs : List ℕ) → i ≤ t → IsCutFrom (Some InputTooLong) l i t n line (c ∷ cs)
+  unfolding seen_from
+  cut-full c cs full =
+      let is = byte_fault-full l i t n line c full in
+      let e : i - t ≡ 0 = omega arith in
+      let none : whole (line ++ take (i - t) (c ∷ cs)) ≡ [] = ap (λ k. whole (line ++ take k (c ∷ cs))) e ∙ ap whole (append-nil line) ∙ whole-Lacks line clean in
+      record {
+        fault = ap (λ (s : Reading). s.fault) (after-fault l i t n line c cs InputTooLong is);
+        going = given-fault l i t n line c cs InputTooLong is ∙ sym none;
+        at_end = ap₂ (λ (rs : List Rec) (s : Reading). rs ++ last_given s.line) (given-fault l i t n line c cs InputTooLong is) (after-fault l i t n line c cs InputTooLong is) ∙ sym none;
+      }
+
+  cut-fault : (c : ℕ) (cs : List ℕ) (f : LineFault) → t < i → c ≢ 10 → line_fault l (n + 1) (line ++ c ∷ []) ≡ Some f → IsCutFrom (Some f) l i t n line (c ∷ cs)
+  cut-fault c cs f room other passed =
+      let is = byte_fault-other l i t n line c room other ∙ passed in
+      let of_line = line_fault-number l (n + 1) (line ++ c ∷ []) f passed in
+      record {
+        fault = ap (λ (s : Reading). s.fault) (after-fault l i t n line c cs f is);
+        going = given-fault l i t n line c cs f is ∙ sym (seen_from-here n f false (i - t) line (c ∷ cs) of_line);
+        at_end = ap₂ (λ (rs : List Rec) (s : Reading). rs ++ last_given s.line) (given-fault l i t n line c cs f is) (after-fault l i t n line c cs f is)
+            ∙ sym (seen_from-here n f true (i - t) line (c ∷ cs) of_line);
+      }
+
+  cut-newline : (cs : List ℕ) (o : Option LineFault) → t < i → IsFrom (n + 1 + 1) o → IsCutFrom o l i (t + 1) (n + 1) [] cs → IsCutFrom o l i t n line (10 ∷ cs)
+  cut-newline cs o room later h =
+      let e : i - t ≡ suc (i - (t + 1)) = omega arith in
+      record {
+        fault = ap (λ (s : Reading). s.fault) (after-newline l i t n line cs room) ∙ h.fault;
+        going = given-newline l i t n line cs room ∙ ap (λ (rs : List Rec). cut 9 line ∷ rs) h.going
+            ∙ sym (seen_from-newline o false (i - t) (i - (t + 1)) n line cs clean e later);
+        at_end = ap₂ (λ (rs : List Rec) (s : Reading). rs ++ last_given s.line) (given-newline l i t n line cs room) (after-newline l i t n line cs room)
+            ∙ ap (λ (rs : List Rec). cut 9 line ∷ rs) h.at_end
+            ∙ sym (seen_from-newline o true (i - t) (i - (t + 1)) n line cs clean e later);
+      }
+
+  cut-other : (c : ℕ) (cs : List ℕ) (o : Option LineFault) → t < i → c ≢ 10 → line_fault l (n + 1) (line ++ c ∷ []) ≡ None
+      → IsCutFrom o l i (t + 1) n (line ++ c ∷ []) cs → IsCutFrom o l i t n line (c ∷ cs)
+  cut-other c cs o room other more_fits h =
+      let e : i - t ≡ suc (i - (t + 1)) = omega arith in
+      record {
+        fault = ap (λ (s : Reading). s.fault) (after-other l i t n line c cs room other more_fits) ∙ h.fault;
+        going = given-other l i t n line c cs room other more_fits ∙ h.going ∙ sym (seen_from-other o false (i - t) (i - (t + 1)) n line c cs e);
+        at_end = ap₂ (λ (rs : List Rec) (s : Reading). rs ++ last_given s.line) (given-other l i t n line c cs room other more_fits) (after-other l i t n line c cs room other more_fits)
+            ∙ h.at_end
+            ∙ sym (seen_from-other o true (i - t) (i - (t + 1)) n line c cs e);
+      }
+
+cut-from : (l i t n : ℕ) (line b : List ℕ) → Lacks 10 line → line_fault l (n + 1) line ≡ None → IsCutFrom (first_limit l i t n line b) l i t n line b
+cut-from l i t n line [] clean fits =
+    subst (λ (o : Option LineFault). IsCutFrom o l i t n line []) (sym (first_limit-end l i t n line clean fits)) (cut-end l i t n line clean fits)
+cut-from l i t n line (c ∷ cs) clean fits =
+    by_room (cases_lt t i)
+    (cut-from l i (t + 1) (n + 1) [] cs tt (line_fault-within l (n + 1 + 1) [] (omega arith) (omega arith)))
+    (λ other more_fits. cut-from l i (t + 1) n (line ++ c ∷ []) cs (Lacks-append 10 line (c ∷ []) clean (other, tt)) more_fits)
+  where
+    by_fault : t < i → c ≢ 10 → (o : Option LineFault) → line_fault l (n + 1) (line ++ c ∷ []) ≡ o
+        → (line_fault l (n + 1) (line ++ c ∷ []) ≡ None → IsCutFrom (first_limit l i (t + 1) n (line ++ c ∷ []) cs) l i (t + 1) n (line ++ c ∷ []) cs)
+        → CutHere l i t n line c cs
+    by_fault room other None is more =
+        subst (λ (o : Option LineFault). IsCutFrom o l i t n line (c ∷ cs)) (sym (first_limit-other l i t n line c cs room))
+        (cut-other l i t n line clean fits c cs (first_limit l i (t + 1) n (line ++ c ∷ []) cs) room other is (more is))
+    by_fault room other (Some f) is more =
+        subst (λ (o : Option LineFault). IsCutFrom o l i t n line (c ∷ cs)) (sym (first_limit-fault l i t n line c cs f room clean other is))
+        (cut-fault l i t n line clean fits c cs f room other is)
+
+    newline : t < i → IsCutFrom (first_limit l i (t + 1) (n + 1) [] cs) l i (t + 1) (n + 1) [] cs → CutHere l i t n line 10 cs
+    newline room h =
+        let o = first_limit l i (t + 1) (n + 1) [] cs in
+        subst (λ (p : Option LineFault). IsCutFrom p l i t n line (10 ∷ cs)) (sym (first_limit-newline l i t n line cs room clean fits))
+        (cut-newline l i t n line clean fits cs o room
+        (IsFrom-or_later (n + 1 + 1) _ _ (IsFrom-lines_fault l (n + 1 + 1) (lines (take (i - (t + 1)) cs))) (IsFrom-input_fault (n + 1 + 1) (i - (t + 1)) cs)) h)
+
+    by_byte : (e : Bool) → eqb c 10 ≡ e → t < i → IsCutFrom (first_limit l i (t + 1) (n + 1) [] cs) l i (t + 1) (n + 1) [] cs
+        → (c ≢ 10 → line_fault l (n + 1) (line ++ c ∷ []) ≡ None → IsCutFrom (first_limit l i (t + 1) n (line ++ c ∷ []) cs) l i (t + 1) n (line ++ c ∷ []) cs)
+        → CutHere l i t n line c cs
+    by_byte true is room h more = subst (λ b. CutHere l i t n line b cs) (sym (eqb-true c 10 is)) (newline room h)
+    by_byte false is room h more =
+        let other : c ≢ 10 = λ is10. both_ways (eqb c 10) is (eq-eqb c 10 is10) in
+        by_fault room other (line_fault l (n + 1) (line ++ c ∷ [])) refl (more other)
+
+    by_room : (t < i) ⊎ (i ≤ t) → IsCutFrom (first_limit l i (t + 1) (n + 1) [] cs) l i (t + 1) (n + 1) [] cs
+        → (c ≢ 10 → line_fault l (n + 1) (line ++ c ∷ []) ≡ None → IsCutFrom (first_limit l i (t + 1) n (line ++ c ∷ []) cs) l i (t + 1) n (line ++ c ∷ []) cs)
+        → CutHere l i t n line c cs
+    by_room (inl room) h more = by_byte (eqb c 10) refl room h more
+    by_room (inr full) h more =
+        subst (λ (o : Option LineFault). IsCutFrom o l i t n line (c ∷ cs)) (sym (first_limit-full l i t n line c cs full clean fits))
+        (cut-full l i t n line clean fits c cs full)
+
+-- from the beginning on
+seen_from-opening : (o : Option LineFault) (ended : Bool) (i : ℕ) (b : List ℕ) → seen_from o ended (i - 0) 0 [] b ≡ seen_by o i b ended
+unfolding seen_from
+seen_from-opening None ended i b = refl
+seen_from-opening (Some (TooLong m)) ended i b = refl
+seen_from-opening (Some (TooManyFields m)) ended i b = refl
+seen_from-opening (Some InputTooLong) ended i b = ap (λ k. whole (take k b)) (let e : i - 0 ≡ i = omega arith in e)
+
+pub reading-law : ReadingLaw
+reading-law l i b =
+    let h = cut-from l i 0 0 [] b tt (line_fault-within l 1 [] (omega arith) (omega arith)) in
+    let same : first_limit l i 0 0 [] b ≡ limit l i b = ap (λ k. or_later (lines_fault l 1 (lines (take k b))) (input_fault k b)) (let e : i - 0 ≡ i = omega arith in e) in
+    record {
+      fault = h.fault ∙ ap (option_map Line) same;
+      going = h.going ∙ seen_from-opening (first_limit l i 0 0 [] b) false i b ∙ ap (λ (o : Option LineFault). seen_by o i b false) same;
+      at_end = h.at_end ∙ seen_from-opening (first_limit l i 0 0 [] b) true i b ∙ ap (λ (o : Option LineFault). seen_by o i b true) same;
+    }

@@ -1,0 +1,171 @@
+// What no clause says: that the calls succeed while memory is there, and that the clauses mean these bytes.
+use super::LineReader;
+use crate::{FeedFault, LineFault, Record, print_record};
+use std::alloc::Global;
+use std::process::Abort;
+use std::test::Fail;
+
+// The records as they are written.
+fn text_of(alloc: Global, records: &Vec<Record>) -> Result<Vec<u8>, Fail> {
+    let mut text = Vec::new(alloc);
+    for r in records {
+        print_record(r, &mut text)?;
+    }
+    Ok(text)
+}
+
+#[test]
+fn line_reader_keeps_its_refusal(rt: HostRuntime) -> Result<(), Fail> {
+    let mut reader = LineReader::new(rt.alloc(), 10, 4)?;
+    let mut into = Vec::new(rt.alloc());
+    assert_eq!(rt; reader.feed(b"ab\n", &mut into), Ok(()));
+    assert_eq!(rt; reader.fault(), None);
+    let too_long = Err(FeedFault::Line(LineFault::InputTooLong));
+    assert_eq!(rt; reader.feed(b"cd", &mut into), too_long);
+    for piece in ["", "\n", "e\nf\n"] {
+        assert_eq!(rt; reader.feed(piece.as_bytes(), &mut into), too_long);
+    }
+    assert_eq!(rt;
+        reader.fault(),
+        Some(FeedFault::Line(LineFault::InputTooLong))
+    );
+    assert_eq!(rt; text_of(rt.alloc(), &into)?.as_slice(), b"ab\n".as_slice());
+    Ok(())
+}
+
+// A line of so many bytes `x` and a newline.
+fn line_of(alloc: Global, len: usize) -> Result<Vec<u8>, Fail> {
+    let mut line = Vec::new(alloc);
+    line.resize(len, b'x')?;
+    line.push(b'\n')?;
+    Ok(line)
+}
+
+#[test]
+fn long_lines_and_many_fields(rt: HostRuntime) -> Result<(), Fail> {
+    let mut reader = LineReader::new(rt.alloc(), 65_536, 1 << 40)?;
+    let mut into = Vec::new(rt.alloc());
+    assert_eq!(rt;
+        reader.feed(line_of(rt.alloc(), 65_536)?.as_slice(), &mut into),
+        Ok(())
+    );
+    assert_eq!(rt; into.len(), 1);
+    assert_eq!(rt; into[0].joined().len(), 65_536);
+    assert_eq!(rt;
+        reader.feed(line_of(rt.alloc(), 65_537)?.as_slice(), &mut into),
+        Err(FeedFault::Line(LineFault::TooLong(2)))
+    );
+    assert_eq!(rt; into.len(), 1);
+
+    let mut reader = LineReader::new(rt.alloc(), 65_536, 1 << 40)?;
+    let mut wide = Vec::new(rt.alloc());
+    wide.resize(63, b'\t')?;
+    assert_eq!(rt; reader.feed(wide.as_slice(), &mut into), Ok(()));
+    assert_eq!(rt; reader.feed(b"\na\nb", &mut into), Ok(()));
+    assert_eq!(rt; into.len(), 3);
+    assert_eq!(rt; into[1].len(), 64);
+    assert_eq!(rt; reader.feed(wide.as_slice(), &mut into), Ok(()));
+    assert_eq!(rt;
+        reader.feed(b"\t", &mut into),
+        Err(FeedFault::Line(LineFault::TooManyFields(3)))
+    );
+    assert_eq!(rt; into.len(), 3);
+    Ok(())
+}
+
+// What a reader with these limits answers to the whole text in one piece.
+fn answer_of(
+    rt: &impl Abort,
+    alloc: Global,
+    line_limit: usize,
+    input_limit: u64,
+    text: &[u8],
+    want: Result<(), FeedFault>,
+) -> Result<(), Fail> {
+    assert!(rt; 1 <= line_limit && 1 <= input_limit);
+    let mut reader = LineReader::new(alloc, line_limit, input_limit)?;
+    let mut into = Vec::new(alloc);
+    assert_eq!(rt;
+        reader.feed(text, &mut into),
+        want,
+        "{line_limit} and {input_limit}"
+    );
+    Ok(())
+}
+
+#[test]
+fn of_several_limits_at_one_byte_the_input_comes_first(rt: HostRuntime) -> Result<(), Fail> {
+    // 64 tabs behind a line: the last of them is byte 66 of the text and byte 64 of its line.
+    let mut text = Vec::from_slice(rt.alloc(), b"a\n")?;
+    text.resize(66, b'\t')?;
+    let text = text.as_slice();
+    let input = Err(FeedFault::Line(LineFault::InputTooLong));
+    let long = Err(FeedFault::Line(LineFault::TooLong(2)));
+    let many = Err(FeedFault::Line(LineFault::TooManyFields(2)));
+    answer_of(&rt, rt.alloc(), 63, 65, text, input)?;
+    answer_of(&rt, rt.alloc(), 64, 65, text, input)?;
+    answer_of(&rt, rt.alloc(), 63, 66, text, long)?;
+    answer_of(&rt, rt.alloc(), 62, 65, text, long)?;
+    answer_of(&rt, rt.alloc(), 64, 66, text, many)?;
+    // A newline is a byte of the input, and none of its line.
+    answer_of(&rt, rt.alloc(), 1, 3, b"a\nb\n", input)?;
+    answer_of(&rt, rt.alloc(), 1, 4, b"a\nb\n", Ok(()))?;
+    Ok(())
+}
+
+#[test]
+fn every_cutting_into_pieces_gives_the_same_records(rt: HostRuntime) -> Result<(), Fail> {
+    for cutting in 0..2048u16 {
+        let mut reader = LineReader::new(rt.alloc(), 3, 12)?;
+        let mut into = Vec::new(rt.alloc());
+        let mut piece = Vec::new(rt.alloc());
+        let mut cuts = cutting;
+        for byte in b"a\n\nb\tc\n\t\td\ne".as_slice() {
+            piece.push(*byte)?;
+            if cuts % 2 == 1 {
+                assert_eq!(rt; reader.feed(piece.as_slice(), &mut into), Ok(()));
+                piece.clear();
+            }
+            cuts /= 2;
+        }
+        assert_eq!(rt;
+            reader.feed(piece.as_slice(), &mut into),
+            Ok(()),
+            "{cutting}"
+        );
+        assert_eq!(rt; into.len(), 4, "{cutting}");
+        assert_eq!(rt; reader.fault(), None);
+        reader.finish(&mut into)?;
+        assert_eq!(rt; into.len(), 5, "{cutting}");
+        assert_eq!(rt;
+            text_of(rt.alloc(), &into)?.as_slice(),
+            b"a\n\nb\tc\n\t\td\ne\n".as_slice(),
+            "{cutting}"
+        );
+    }
+    Ok(())
+}
+
+#[test]
+fn finish_gives_a_last_line_without_a_newline(rt: HostRuntime) -> Result<(), Fail> {
+    for (text, want) in [
+        ("", ""),
+        ("\n", "\n"),
+        ("a\tb", "a\tb\n"),
+        ("a\tb\n", "a\tb\n"),
+        ("a\n\n", "a\n\n"),
+        ("a\n\nb", "a\n\nb\n"),
+    ] {
+        let mut reader = LineReader::new(rt.alloc(), 10, 100)?;
+        let mut into = Vec::new(rt.alloc());
+        assert_eq!(rt; reader.feed(text.as_bytes(), &mut into), Ok(()));
+        assert_eq!(rt; reader.fault(), None);
+        reader.finish(&mut into)?;
+        assert_eq!(rt;
+            text_of(rt.alloc(), &into)?.as_slice(),
+            want.as_bytes(),
+            "{text:?}"
+        );
+    }
+    Ok(())
+}
