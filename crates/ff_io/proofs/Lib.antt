@@ -1,2 +1,4 @@
 pub mod Fronts
 pub mod Portions
+pub mod Cabinets
+pub mod Limits

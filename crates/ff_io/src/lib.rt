@@ -1,6 +1,9 @@
-//! The outside as the other crates see it: sources and sinks of bytes, each with a count of its faults.
+//! The outside as the other crates see it: sources and sinks of bytes, and files by name, each with a count of its faults.
 #![tactic(auto)]
 
+mod files;
+mod host_files;
+mod mem_files;
 mod mem_sink;
 mod mem_source;
 mod outside;
@@ -8,6 +11,9 @@ mod reader_source;
 mod short_sink;
 mod writer_sink;
 
+pub use files::{FileFault, Files, StoreFault};
+pub use host_files::HostFiles;
+pub use mem_files::MemFiles;
 pub use mem_sink::MemSink;
 pub use mem_source::MemSource;
 pub use outside::{Failed, Sink, Source, write_all};
