@@ -2,4 +2,4 @@ pub mod NumberAnswers
 pub mod Finding
 pub mod Wording
 pub mod FoldLists
-mod KeyPlaces
+mod TableLaws
