@@ -1,7 +1,7 @@
 -- The entries of a hash map in byte order of their keys, by what is found at each key.
-use Rattle.std.proofs.Common.{◌≡◌, ℕ, Bool, true, false, nat_eq, cond, List, [], ◌∷◌, map, Option, None, Some, is_eq, is_some, unwrap_or, refl, sym, ap, ap₂, subst, ◌∙◌, Ordering, Less, Equal, Greater, nat_cmp}
+use Rattle.std.proofs.Common.{◌≡◌, ℕ, Bool, true, false, nat_eq, cond, List, [], ◌∷◌, Option, None, Some, is_eq, is_some, unwrap_or, refl, sym, ap, ap₂, subst, ◌∙◌, Ordering, Less, Equal, Greater, nat_cmp}
 use Rattle.std.specs.List.{AllByRecursion, IsDistinct, fold}
-use Rattle.std.specs.List.Sorted.{IsStrictlySortedBy, IsPermutation}
+use Rattle.std.specs.List.Sorted.{IsStrictlySortedBy}
 use Rattle.std.specs.Map.{lookup, keys_of, update_all, KeepsOthers}
 use Rattle.std.specs.HashMap.{HashMap, PutsEntry}
 use Rattle.std.specs.declared.alloc.Global.{Global}

@@ -1,5 +1,5 @@
 -- Values by key as a map holds them, and as entries in byte order of the keys.
-use Rattle.std.specs.Prelude.{◌≡◌, ℕ, nat_eq, List, [], ◌∷◌, map, Option}
+use Rattle.std.specs.Prelude.{◌≡◌, ℕ, nat_eq, List, [], map, Option}
 use Rattle.std.specs.List.{All, IsDistinct, fold}
 use Rattle.std.specs.Map.{lookup, keys_of}
 use Rattle.std.specs.Cmp.Lexicographic.{pointwise}

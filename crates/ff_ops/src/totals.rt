@@ -79,8 +79,5 @@ impl Totals {
 fn sums_with(sums: (u128, u128), x: i64) -> (u128, u128)
     ensures { result ≡ summed x sums }
 {
-    (
-        add_capped(sums.0, above(x)),
-        add_capped(sums.1, below(x)),
-    )
+    (add_capped(sums.0, above(x)), add_capped(sums.1, below(x)))
 }

@@ -1,8 +1,8 @@
-use Rattle.std.proofs.Common.{◌≡◌, ◌∷◌, List, ap, sym, ◌∙◌}
+use Rattle.std.proofs.Common.{◌≡◌, ◌∷◌, ap, sym, ◌∙◌}
 use Rattle.std.specs.List.{fold}
 use Rattle.std.specs.Map.Iter.{deref_pair}
 use Rattle.std.proofs.lemmas.Map.Iter.{rest_more}
-use Rattle.ff_ops.specs.Tables.{by_key, put, read_by}
+use Rattle.ff_ops.specs.Tables.{put, read_by}
 use Rattle.ff_ops.proofs.TableLaws.{fold-inserted}
 use Rattle.ff_ops.proofs.entries.in_order.Goals as goal
 

@@ -1,6 +1,4 @@
-use Rattle.std.proofs.Common.{◌≡◌, ◌∷◌, Some, None, List, Option, nat_eq, ap, sym, subst, ◌∙◌}
-use Rattle.std.specs.Map.{KeepsOthers}
-use Rattle.std.specs.Cmp.Lexicographic.{pointwise}
+use Rattle.std.proofs.Common.{ap, sym, subst, ◌∙◌}
 use Rattle.ff_rec.specs.Lines.{IsPlain}
 use Rattle.ff_ops.specs.Tables.{by_key, at_key, IsNewAt}
 use Rattle.ff_ops.proofs.TableLaws.{IsNewAt-put, ArePlain-put}

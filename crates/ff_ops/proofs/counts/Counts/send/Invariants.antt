@@ -4,7 +4,7 @@ use Rattle.std.specs.Map.{keys_of}
 use Rattle.ff_rec.specs.Lines.{IsPlain}
 use Rattle.ff_node.specs.Sends.{add}
 use Rattle.ff_ops.specs.KeyedTakes.{tally_record}
-use Rattle.ff_ops.specs.Tables.{by_key, read_by}
+use Rattle.ff_ops.specs.Tables.{read_by}
 use Rattle.ff_ops.proofs.counts.Counts.send.Given as goal
 
 -- the records so far, with those of what is left, are all; what is left is plain
