@@ -12,8 +12,6 @@ pub loop-key-init : goal.loop-key-init
 loop-key-init c =
     let sorted : read_by (λ k. k.now) c.into_iter-key-iterator.result ≡ by_key c.self.inside.counts.entries =
     ap (read_by (λ k. k.now)) c.into_iter-key-iterator.ensures.into_iter_gives.0 ∙ c.in_ok-items.ensures in (
-      tt,
-      tt,
       ap (λ es. add c.args.out.now (map tally_record es) []) (sorted ∙ c.self.view_is),
       subst (λ es. AllByRecursion IsPlain (keys_of es)) (sym sorted) (by_key-plain c.self.inside.counts.entries c.self.invariant),
     )

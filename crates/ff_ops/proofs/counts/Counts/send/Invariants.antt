@@ -10,7 +10,5 @@ use Rattle.ff_ops.proofs.counts.Counts.send.Given as goal
 -- the records so far, with those of what is left, are all; what is left is plain
 abbrev pub invariant-loop-key : goal.invariant-loop-key
 invariant-loop-key l =
-    (goal.iterator-loop-key).can_next l.key-iterator ×
-    (goal.iterator-loop-key).is_finite l.key-iterator
-    × (add l.out (map tally_record (read_by (λ k. k.now) l.key-iterator)) [] ≡ add l.fn.out (map tally_record l.fn.self) [])
+    (add l.out (map tally_record (read_by (λ k. k.now) l.key-iterator)) [] ≡ add l.fn.out (map tally_record l.fn.self) [])
     × AllByRecursion IsPlain (keys_of (read_by (λ k. k.now) l.key-iterator))
