@@ -2,4 +2,5 @@ pub mod NumberAnswers
 pub mod Finding
 pub mod Wording
 pub mod FoldLists
+mod KeyFinds
 mod TableLaws
