@@ -2,5 +2,6 @@ pub mod NumberAnswers
 pub mod Finding
 pub mod Wording
 pub mod FoldLists
-mod KeyPlaces
+mod KeyFinds
+mod TableLaws
 mod Copies

@@ -14,12 +14,12 @@ pub mod FoldLaws
 pub mod FoldOpLaws
 pub mod FoldSums
 pub mod Entries
+pub mod Tables
 pub mod EntryLaws
 pub mod KeyedOps
 pub mod KeyedFolds
 pub mod KeyedTakes
 pub mod KeyedOpLaws
-pub mod Places
 pub mod Families
 pub mod Parts
 pub mod FamilyLaws

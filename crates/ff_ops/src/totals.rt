@@ -1,31 +1,36 @@
 // Sums by key.
-ghost use Rattle.std.specs.Prelude.{◌≡◌, ◌∷◌, [], map, OnOk};
+ghost use Rattle.std.specs.Prelude.{◌≡◌, ◌∷◌, [], map, OnOk, OnErr};
 ghost use Rattle.ff_rec.specs.Lines.{IsPlain};
 ghost use Rattle.ff_ops.specs.Entries.{changed};
 ghost use Rattle.ff_ops.specs.KeyedOps.{summed};
 ghost use Rattle.ff_ops.specs.KeyedTakes.{total_record};
 ghost use Rattle.ff_node.specs.Sends.{add};
 
-use crate::entries::{place_for, send_entry};
+use crate::entries::{in_order, put_new, send_entry};
 use crate::fold_op::{above, add_capped, below, difference};
 use ff_node::Sends;
-use ff_rec::{Field, NoMemory};
+use ff_rec::NoMemory;
 use std::alloc::Global;
+use std::collections::HashMap;
 use std::marker::Model;
 
-/// The sum of the numbers above 0 of each key, and that of the absolute values of those below, in byte order of the keys.
+/// The sum of the numbers above 0 of each key, and that of the absolute values of those below.
 #[derive(Debug, Drop)]
 pub struct Totals {
-    entries: Vec<(Field, (u128, u128))>,
+    sums: HashMap<Vec<u8>, (u128, u128)>,
+    alloc: Global,
 }
 
 impl Model for Totals {
     ghost use Rattle.std.specs.Prelude.{List, ℕ};
     ghost use Rattle.ff_ops.specs.Entries.{Entry};
+    ghost use Rattle.ff_ops.specs.Tables.{by_key, ArePlain};
 
     ghost Value = { List (Entry (ℕ × ℕ)) };
 
-    ghost view = { λ t. t.entries.items };
+    ghost view = { λ t. by_key t.sums.entries };
+
+    ghost invariant = { λ t. ArePlain t.sums.entries };
 }
 
 impl Totals {
@@ -34,36 +39,45 @@ impl Totals {
         ensures { result ≡ [] }
     {
         Totals {
-            entries: Vec::new(alloc),
+            sums: HashMap::new(alloc),
+            alloc,
         }
     }
 
-    /// Adds a number to the sums of a key.
+    /// Adds a number to the sums of a key. After a refusal the sums are unchanged.
     pub fn add(&mut self, key: &[u8], x: i64) -> Result<(), NoMemory>
         requires { IsPlain key.now }
-        ensures { OnOk result (self.new ≡ changed (0, 0) key.now (summed x) self.old) }
+        ensures ok { OnOk result (self.new ≡ changed (0, 0) key.now (summed x) self.old) }
+        ensures err { OnErr result (self.new ≡ self.old) }
     {
-        let at = place_for(&mut self.entries, key, (0, 0))?;
-        let (plus, minus) = self.entries[at].1;
-        self.entries[at].1 = (add_capped(plus, above(x)), add_capped(minus, below(x)));
-        Ok(())
+        if let Some(sums) = self.sums.get_mut(key) {
+            *sums = sums_with(*sums, x);
+            return Ok(());
+        }
+        put_new(&mut self.sums, self.alloc, key, sums_with((0, 0), x))
     }
 
     /// None of the entries of it, with the same allocator.
     pub fn opening(&self) -> Totals
         ensures { result ≡ [] }
     {
-        Totals::new(*self.entries.allocator())
+        Totals::new(self.alloc)
     }
 
-    /// Sends a record of each key and the total of its sums.
+    /// Sends a record of each key and the total of its sums, in byte order of the keys.
     pub fn send(&self, out: &mut Sends) -> Result<(), NoMemory>
         ensures { OnOk result (out.new ≡ add out.old (map total_record self.now) []) }
     {
-        let alloc = *self.entries.allocator();
-        for (key, (plus, minus)) in &self.entries {
-            send_entry(alloc, key, difference(*plus, *minus), out)?;
+        for (key, (plus, minus)) in &in_order(&self.sums, self.alloc)? {
+            send_entry(self.alloc, key, difference(*plus, *minus), out)?;
         }
         Ok(())
     }
+}
+
+// The two sums of a key, with one number more.
+fn sums_with(sums: (u128, u128), x: i64) -> (u128, u128)
+    ensures { result ≡ summed x sums }
+{
+    (add_capped(sums.0, above(x)), add_capped(sums.1, below(x)))
 }

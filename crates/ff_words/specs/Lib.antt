@@ -1,0 +1,5 @@
+pub mod Arguments
+pub mod Numbers
+pub mod Parsed
+pub mod Rows
+pub mod Words

@@ -1,0 +1,97 @@
+// What words ask for.
+use crate::Text;
+use std::alloc::AllocError;
+
+/// Why words gave no command.
+#[derive(Clone, Copy, Debug, PartialEq, Eq, Hash)]
+pub enum CommandFault {
+    /// The words aren't a command.
+    Usage,
+    NoMemory,
+}
+
+/// How the channels between threads are made.
+#[derive(Clone, Copy, Debug, PartialEq, Eq, Hash)]
+pub enum Queue {
+    /// Rings of a fixed size.
+    Ring,
+    /// Chains of rings, which grow.
+    Chain,
+}
+
+/// What divide and conquer works out.
+#[derive(Clone, Copy, Debug, PartialEq, Eq, Hash)]
+pub enum DcRule {
+    Fib,
+    Sum,
+    MaxSub,
+    FirstMin,
+    Bracket,
+}
+
+/// Where a description stands.
+#[derive(Debug, Drop)]
+pub enum Given {
+    /// In the words themselves.
+    Text(Text),
+    /// In the file of this name.
+    File(Text),
+}
+
+/// A command, with the values of all its options.
+#[derive(Debug, Drop)]
+pub enum Command {
+    /// Runs a network over the input.
+    Run {
+        given: Given,
+        /// Slots of a ring.
+        cap: u32,
+        queue: Queue,
+        /// The most tasks of a loop.
+        tasks: u64,
+        /// Without threads.
+        one: bool,
+        /// The file for the rejected records.
+        rejects: Option<Text>,
+    },
+    /// Checks a network, and prints it.
+    Check {
+        given: Given,
+    },
+    /// Prints the plan of a network.
+    Plan {
+        given: Given,
+    },
+    /// Runs a macro dataflow program.
+    Mdf {
+        given: Given,
+        workers: u32,
+    },
+    /// Divides and conquers.
+    Dc {
+        rule: DcRule,
+        /// The operand, for `fib` alone.
+        n: Option<u32>,
+        /// The size of a part that isn't divided.
+        cut: u32,
+        workers: u32,
+    },
+    /// Runs a network over records that it makes.
+    Soak {
+        n: u64,
+        workers: u32,
+        cap: u32,
+        queue: Queue,
+    },
+}
+
+impl From<AllocError> for CommandFault {
+    ghost use Rattle.std.specs.Prelude.{◌≡◌};
+    ghost use Rattle.ff_words.specs.declared.command.CommandFault.TheVariants.{NoMemory};
+
+    ghost from_gives = { λ _ fault. fault ≡ NoMemory };
+
+    fn from(_: AllocError) -> CommandFault {
+        CommandFault::NoMemory
+    }
+}

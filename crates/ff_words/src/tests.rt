@@ -1,0 +1,42 @@
+// The expected commands are those that the page of clap's builder promises for such arguments, and the limits of the
+// rows in specs/.
+use crate::{CommandFault, read_command};
+use std::alloc::Global;
+use std::process::Abort;
+use std::test::Fail;
+
+mod limits;
+mod refused;
+mod taken;
+
+// The words of a line, which stand between single spaces.
+fn make_words(alloc: Global, line: &str) -> Result<Vec<String>, Fail> {
+    let mut words = Vec::new(alloc);
+    for word in line.split(' ') {
+        words.push(String::from_str(alloc, word)?)?;
+    }
+    Ok(words)
+}
+
+// The words of the line are the command that prints as `want`.
+fn is_taken(rt: &impl Abort, alloc: Global, line: &str, want: &str) -> Result<(), Fail> {
+    let words = make_words(alloc, line)?;
+    match read_command(alloc, &words) {
+        Ok(command) => {
+            let shown = format!(in alloc; "{command:?}")?;
+            assert_eq!(rt; shown.as_str(), want, "{line}");
+        }
+        Err(fault) => panic!(rt; "{fault:?}: {line}"),
+    }
+    Ok(())
+}
+
+// They are no command.
+fn is_refused(rt: &impl Abort, alloc: Global, line: &str) -> Result<(), Fail> {
+    let words = make_words(alloc, line)?;
+    match read_command(alloc, &words) {
+        Ok(command) => panic!(rt; "{command:?}: {line}"),
+        Err(fault) => assert_eq!(rt; fault, CommandFault::Usage, "{line}"),
+    }
+    Ok(())
+}

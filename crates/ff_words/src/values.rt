@@ -1,0 +1,109 @@
+// The values of each command.
+ghost use Rattle.std.specs.Prelude.{◌≡◌, None, Some, IfOk, IsErrOf, option_map};
+ghost use Rattle.clap.specs.Words.{first_of, found_of, rows_of};
+ghost use Rattle.ff_words.specs.Rows.{given_of, operand, run_of, check_of, plan_of, mdf_of, dc_of, soak_of};
+
+use crate::number::read_number_in;
+use crate::rows::{kept_of, number_of, queue_of, rule_named, stands, text_of};
+use crate::{Command, CommandFault, DcRule, Given, Text};
+use clap::ArgMatches;
+use std::alloc::Global;
+
+pub fn run_of(alloc: Global, matches: &ArgMatches<'_>) -> Result<Command, CommandFault>
+    ensures ok { IfOk result (λ c. run_of (rows_of (found_of matches.now)) ≡ Some c) }
+    ensures usage { IsErrOf result CommandFault.Usage → run_of (rows_of (found_of matches.now)) ≡ None }
+{
+    let given = given_of(alloc, matches)?;
+    let cap = number_of(matches, "cap", 1, 4096).ok_or(CommandFault::Usage)?;
+    let queue = queue_of(matches).ok_or(CommandFault::Usage)?;
+    let tasks = number_of(matches, "tasks", 1, 10_000_000).ok_or(CommandFault::Usage)?;
+    let rejects = kept_of(alloc, matches, "rejects")?;
+    Ok(Command::Run {
+        given,
+        cap,
+        queue,
+        tasks: u64::from(tasks),
+        one: stands(matches, "one"),
+        rejects,
+    })
+}
+
+pub fn check_of(alloc: Global, matches: &ArgMatches<'_>) -> Result<Command, CommandFault>
+    ensures ok { IfOk result (λ c. check_of (rows_of (found_of matches.now)) ≡ Some c) }
+    ensures usage { IsErrOf result CommandFault.Usage → check_of (rows_of (found_of matches.now)) ≡ None }
+{
+    Ok(Command::Check {
+        given: given_of(alloc, matches)?,
+    })
+}
+
+pub fn plan_of(alloc: Global, matches: &ArgMatches<'_>) -> Result<Command, CommandFault>
+    ensures ok { IfOk result (λ c. plan_of (rows_of (found_of matches.now)) ≡ Some c) }
+    ensures usage { IsErrOf result CommandFault.Usage → plan_of (rows_of (found_of matches.now)) ≡ None }
+{
+    Ok(Command::Plan {
+        given: given_of(alloc, matches)?,
+    })
+}
+
+pub fn mdf_of(alloc: Global, matches: &ArgMatches<'_>) -> Result<Command, CommandFault>
+    ensures ok { IfOk result (λ c. mdf_of (rows_of (found_of matches.now)) ≡ Some c) }
+    ensures usage { IsErrOf result CommandFault.Usage → mdf_of (rows_of (found_of matches.now)) ≡ None }
+{
+    let given = given_of(alloc, matches)?;
+    let workers = number_of(matches, "workers", 1, 64).ok_or(CommandFault::Usage)?;
+    Ok(Command::Mdf { given, workers })
+}
+
+pub fn dc_of(matches: &ArgMatches<'_>) -> Option<Command>
+    ensures { result ≡ dc_of (rows_of (found_of matches.now)) }
+{
+    let rule = rule_named(text_of(matches, "RULE")?)?;
+    let n = operand(rule, text_of(matches, "N"))?;
+    let cut = number_of(matches, "cut", 1, 1_000_000)?;
+    let workers = number_of(matches, "workers", 1, 64)?;
+    Some(Command::Dc {
+        rule,
+        n,
+        cut,
+        workers,
+    })
+}
+
+pub fn soak_of(matches: &ArgMatches<'_>) -> Option<Command>
+    ensures { result ≡ soak_of (rows_of (found_of matches.now)) }
+{
+    let n = number_of(matches, "N", 0, 10_000_000)?;
+    let workers = number_of(matches, "workers", 1, 16)?;
+    let cap = number_of(matches, "cap", 1, 4096)?;
+    let queue = queue_of(matches)?;
+    Some(Command::Soak {
+        n: u64::from(n),
+        workers,
+        cap,
+        queue,
+    })
+}
+
+// One of a text and a file.
+fn given_of(alloc: Global, matches: &ArgMatches<'_>) -> Result<Given, CommandFault>
+    ensures ok { IfOk result (λ given. given_of (rows_of (found_of matches.now)) ≡ Some given) }
+    ensures usage { IsErrOf result CommandFault.Usage → given_of (rows_of (found_of matches.now)) ≡ None }
+{
+    match (text_of(matches, "TEXT"), text_of(matches, "file")) {
+        (Some(text), None) => Ok(Given::Text(Text::new(alloc, text)?)),
+        (None, Some(file)) => Ok(Given::File(Text::new(alloc, file)?)),
+        _ => Err(CommandFault::Usage),
+    }
+}
+
+// The operand of a rule: a number for `fib`, and no word for the others.
+fn operand(rule: DcRule, text: Option<&str>) -> Option<Option<u32>>
+    ensures { result ≡ operand rule (option_map (λ t. t.now) text.entry) }
+{
+    match (rule, text) {
+        (DcRule::Fib, Some(text)) => Some(Some(read_number_in(text, 0, 1_000_000)? as u32)),
+        (DcRule::Fib, None) | (_, Some(_)) => None,
+        (_, None) => Some(None),
+    }
+}
