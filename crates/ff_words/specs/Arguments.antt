@@ -39,6 +39,7 @@ with_channels app = with_rule (with_rule app (option_or (codes "cap") (codes "51
 abbrev pub with_workers : App → App
 with_workers app = with_rule app (option_or (codes "workers") (codes "4"))
 
+-- `run [TEXT] [-f FILE] [--cap N] [--queue Q] [--tasks N] [--one] [--rejects FILE]`
 abbrev pub run_app : App
 run_app = with_rule
     (with_rule
@@ -46,20 +47,25 @@ run_app = with_rule
     (flag (codes "one")))
     (option (codes "rejects"))
 
+-- `check [TEXT] [-f FILE]`
 abbrev pub check_app : App
 check_app = text_app (codes "check")
 
+-- `plan [TEXT] [-f FILE]`
 abbrev pub plan_app : App
 plan_app = text_app (codes "plan")
 
+-- `mdf [TEXT] [-f FILE] [--workers N]`
 abbrev pub mdf_app : App
 mdf_app = with_workers (text_app (codes "mdf"))
 
+-- `dc RULE [N] [--cut N] [--workers N]`
 abbrev pub dc_app : App
 dc_app = with_workers
     (with_rule
     (with_rule (with_rule (new_app (codes "dc")) (wanted (codes "RULE"))) (word (codes "N")))
     (option_or (codes "cut") (codes "16")))
 
+-- `soak N [--workers N] [--cap N] [--queue Q]`
 abbrev pub soak_app : App
 soak_app = with_channels (with_workers (with_rule (new_app (codes "soak")) (wanted (codes "N"))))

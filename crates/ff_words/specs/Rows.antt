@@ -27,19 +27,24 @@ one_given (Some text) None = Some (given.Text text)
 one_given None (Some file) = Some (given.File file)
 one_given _ _ = None
 
+-- one of `[TEXT]` and `--file`
 abbrev pub given_of : List Row → Option Given
 given_of rows = one_given (first_of (codes "TEXT") rows) (first_of (codes "file") rows)
 
+-- the kind of channels of this name
 abbrev pub queue_named : List ℕ → Option Queue
 queue_named name = if bytes_eq name (codes "ring") then Some Ring
     else (if bytes_eq name (codes "chain") then Some Chain else None)
 
+-- the kind of channels in `--queue`
 abbrev pub queue_of : List Row → Option Queue
 queue_of rows = option_and_then queue_named (first_of (codes "queue") rows)
 
+-- the slots of a ring in `--cap`
 abbrev pub cap_of : List Row → Option ℕ
 cap_of rows = number_of (codes "cap") 1 4096 rows
 
+-- the rule of this name
 abbrev pub rule_named : List ℕ → Option DcRule
 rule_named name = if bytes_eq name (codes "fib") then Some Fib
     else (if bytes_eq name (codes "sum") then Some Sum
@@ -54,27 +59,33 @@ operand Fib None = None
 operand _ (Some text) = None
 operand _ None = Some None
 
+-- `run`: a text, `--cap`, `--queue`, up to 10,000,000 in `--tasks`, `--one`, and `--rejects` where it stands
 abbrev pub run_of : List Row → Option Command
 run_of rows = option_and_then (λ text. option_and_then (λ cap. option_and_then (λ queue. option_map (λ tasks.
     Run text cap queue tasks (stands (codes "one") rows) (first_of (codes "rejects") rows))
     (number_of (codes "tasks") 1 10000000 rows)) (queue_of rows)) (cap_of rows)) (given_of rows)
 
+-- `check`: a text
 abbrev pub check_of : List Row → Option Command
 check_of rows = option_map (λ text. Check text) (given_of rows)
 
+-- `plan`: a text
 abbrev pub plan_of : List Row → Option Command
 plan_of rows = option_map (λ text. Plan text) (given_of rows)
 
+-- `mdf`: a text, and up to 64 in `--workers`
 abbrev pub mdf_of : List Row → Option Command
 mdf_of rows = option_and_then (λ text. option_map (λ workers. Mdf text workers)
     (number_of (codes "workers") 1 64 rows)) (given_of rows)
 
+-- `dc`: a rule, its operand, up to 1,000,000 in `--cut`, and up to 64 in `--workers`
 abbrev pub dc_of : List Row → Option Command
 dc_of rows = option_and_then (λ rule. option_and_then (λ n. option_and_then (λ cut. option_map (λ workers. Dc rule n cut workers)
     (number_of (codes "workers") 1 64 rows)) (number_of (codes "cut") 1 1000000 rows))
     (operand rule (first_of (codes "N") rows)))
     (option_and_then rule_named (first_of (codes "RULE") rows))
 
+-- `soak`: up to 10,000,000 records, up to 16 in `--workers`, `--cap` and `--queue`
 abbrev pub soak_of : List Row → Option Command
 soak_of rows = option_and_then (λ n. option_and_then (λ workers. option_and_then (λ cap. option_map (λ queue. Soak n workers cap queue)
     (queue_of rows)) (cap_of rows)) (number_of (codes "workers") 1 16 rows)) (number_of (codes "N") 0 10000000 rows)

@@ -1,12 +1,13 @@
 // The arguments of each command, as `clap` has them.
-ghost use Rattle.std.specs.Prelude.{◌≡◌, false, IfOk, OnOk, IfErr};
+ghost use Rattle.std.specs.Prelude.{◌≡◌, false, IfOk};
 ghost use Rattle.clap.specs.Words.{app_of, rule_of};
-ghost use Rattle.ff_words.specs.Arguments.{option, option_or, flag, file, text_app, with_channels, with_workers};
+ghost use Rattle.ff_words.specs.Arguments.{option, option_or, flag, text_app, with_channels, with_workers};
 ghost use Rattle.ff_words.specs.Arguments.{run_app, check_app, plan_app, mdf_app, dc_app, soak_app};
 
 use clap::{Arg, ArgAction, Command};
 use std::alloc::{AllocError, Global};
 
+/// The arguments of `run`.
 pub fn run_arguments<'a>(alloc: Global) -> Result<Command<'a>, AllocError>
     ensures { IfOk result (λ c. app_of c ≡ run_app) }
 {
@@ -17,24 +18,28 @@ pub fn run_arguments<'a>(alloc: Global) -> Result<Command<'a>, AllocError>
         .arg(option(alloc, "rejects"))
 }
 
+/// The arguments of `check`.
 pub fn check_arguments<'a>(alloc: Global) -> Result<Command<'a>, AllocError>
     ensures { IfOk result (λ c. app_of c ≡ check_app) }
 {
     text_or_file(alloc, "check")
 }
 
+/// The arguments of `plan`.
 pub fn plan_arguments<'a>(alloc: Global) -> Result<Command<'a>, AllocError>
     ensures { IfOk result (λ c. app_of c ≡ plan_app) }
 {
     text_or_file(alloc, "plan")
 }
 
+/// The arguments of `mdf`.
 pub fn mdf_arguments<'a>(alloc: Global) -> Result<Command<'a>, AllocError>
     ensures { IfOk result (λ c. app_of c ≡ mdf_app) }
 {
     workers(alloc, text_or_file(alloc, "mdf")?)
 }
 
+/// The arguments of `dc`.
 pub fn dc_arguments<'a>(alloc: Global) -> Result<Command<'a>, AllocError>
     ensures { IfOk result (λ c. app_of c ≡ dc_app) }
 {
@@ -45,6 +50,7 @@ pub fn dc_arguments<'a>(alloc: Global) -> Result<Command<'a>, AllocError>
     workers(alloc, command)
 }
 
+/// The arguments of `soak`.
 pub fn soak_arguments<'a>(alloc: Global) -> Result<Command<'a>, AllocError>
     ensures { IfOk result (λ c. app_of c ≡ soak_app) }
 {

@@ -1,5 +1,5 @@
 // Numbers among words.
-ghost use Rattle.std.specs.Prelude.{◌≡◌, ◌<◌, ◌-◌, ◌^◌, IfSome};
+ghost use Rattle.std.specs.Prelude.{◌≡◌, ◌<◌, ◌-◌, ◌^◌};
 ghost use Rattle.ff_words.specs.Numbers.{number_in};
 
 use ff_rec::read_number;

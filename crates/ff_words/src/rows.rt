@@ -1,10 +1,10 @@
 // Values of single arguments.
-ghost use Rattle.std.specs.Prelude.{◌≡◌, ◌<◌, ◌^◌, None, Some, IfOk, IsErrOf, option_map};
+ghost use Rattle.std.specs.Prelude.{◌≡◌, IfOk, option_map};
 ghost use Rattle.clap.specs.Words.{first_of, found_of, rows_of};
 ghost use Rattle.ff_words.specs.Rows.{number_of, stands, queue_named, queue_of, rule_named};
 
 use crate::number::read_number_in;
-use crate::{CommandFault, DcRule, Queue, Text};
+use crate::{DcRule, Queue, Text};
 use clap::ArgMatches;
 use std::alloc::{AllocError, Global};
 

@@ -1,5 +1,5 @@
-// The expected commands are those that the page of clap's builder promises for such arguments, and the limits of the
-// rows in specs/.
+// What is expected is worked out by hand, from what clap's documents say of such arguments and from the limits of each
+// command.
 use crate::{CommandFault, read_command};
 use std::alloc::Global;
 use std::process::Abort;

@@ -1,6 +1,6 @@
-// The values of each command.
+// The values of each command. What isn't within its limits is no command.
 ghost use Rattle.std.specs.Prelude.{◌≡◌, None, Some, IfOk, IsErrOf, option_map};
-ghost use Rattle.clap.specs.Words.{first_of, found_of, rows_of};
+ghost use Rattle.clap.specs.Words.{found_of, rows_of};
 ghost use Rattle.ff_words.specs.Rows.{given_of, operand, run_of, check_of, plan_of, mdf_of, dc_of, soak_of};
 
 use crate::number::read_number_in;
@@ -9,6 +9,7 @@ use crate::{Command, CommandFault, DcRule, Given, Text};
 use clap::ArgMatches;
 use std::alloc::Global;
 
+/// The values of `run`.
 pub fn run_of(alloc: Global, matches: &ArgMatches<'_>) -> Result<Command, CommandFault>
     ensures ok { IfOk result (λ c. run_of (rows_of (found_of matches.now)) ≡ Some c) }
     ensures usage { IsErrOf result CommandFault.Usage → run_of (rows_of (found_of matches.now)) ≡ None }
@@ -28,6 +29,7 @@ pub fn run_of(alloc: Global, matches: &ArgMatches<'_>) -> Result<Command, Comman
     })
 }
 
+/// The values of `check`.
 pub fn check_of(alloc: Global, matches: &ArgMatches<'_>) -> Result<Command, CommandFault>
     ensures ok { IfOk result (λ c. check_of (rows_of (found_of matches.now)) ≡ Some c) }
     ensures usage { IsErrOf result CommandFault.Usage → check_of (rows_of (found_of matches.now)) ≡ None }
@@ -37,6 +39,7 @@ pub fn check_of(alloc: Global, matches: &ArgMatches<'_>) -> Result<Command, Comm
     })
 }
 
+/// The values of `plan`.
 pub fn plan_of(alloc: Global, matches: &ArgMatches<'_>) -> Result<Command, CommandFault>
     ensures ok { IfOk result (λ c. plan_of (rows_of (found_of matches.now)) ≡ Some c) }
     ensures usage { IsErrOf result CommandFault.Usage → plan_of (rows_of (found_of matches.now)) ≡ None }
@@ -46,6 +49,7 @@ pub fn plan_of(alloc: Global, matches: &ArgMatches<'_>) -> Result<Command, Comma
     })
 }
 
+/// The values of `mdf`.
 pub fn mdf_of(alloc: Global, matches: &ArgMatches<'_>) -> Result<Command, CommandFault>
     ensures ok { IfOk result (λ c. mdf_of (rows_of (found_of matches.now)) ≡ Some c) }
     ensures usage { IsErrOf result CommandFault.Usage → mdf_of (rows_of (found_of matches.now)) ≡ None }
@@ -55,6 +59,7 @@ pub fn mdf_of(alloc: Global, matches: &ArgMatches<'_>) -> Result<Command, Comman
     Ok(Command::Mdf { given, workers })
 }
 
+/// The values of `dc`.
 pub fn dc_of(matches: &ArgMatches<'_>) -> Option<Command>
     ensures { result ≡ dc_of (rows_of (found_of matches.now)) }
 {
@@ -70,6 +75,7 @@ pub fn dc_of(matches: &ArgMatches<'_>) -> Option<Command>
     })
 }
 
+/// The values of `soak`.
 pub fn soak_of(matches: &ArgMatches<'_>) -> Option<Command>
     ensures { result ≡ soak_of (rows_of (found_of matches.now)) }
 {
