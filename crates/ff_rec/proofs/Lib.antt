@@ -17,4 +17,6 @@ pub mod Cases
 pub mod LineLimits
 pub mod Feeding
 pub mod Steps
+pub mod WholeLines
+pub mod FirstLimits
 pub mod WholeTexts

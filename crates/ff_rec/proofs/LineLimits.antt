@@ -1,9 +1,9 @@
 -- The first limit that a line passes, and lines that go on behind it.
-use Rattle.std.proofs.Common.{◌≡◌, ℕ, zero, suc, ◌+◌, ◌-◌, ◌<◌, ◌≤◌, ltb, cond, List, [], ◌∷◌, ◌++◌, length, take, min, Option, None, Some, refl, sym, ap, ◌∙◌, subst, arith, append_assoc, add-zero, lt-ltb, take_all, length-append}
+use Rattle.std.proofs.Common.{◌≡◌, ℕ, zero, suc, ◌+◌, ◌-◌, ◌<◌, ◌≤◌, ltb, List, [], ◌∷◌, ◌++◌, length, take, min, Option, None, Some, refl, sym, ap, ◌∙◌, subst, arith, lt-ltb, take_all, length-append}
 use Rattle.std.proofs.lemmas.Bool.{cond_both, cond-true, cond-false, ltb-true, ltb-false, le-ltb}
-use Rattle.std.proofs.lemmas.List.{append-nil}
 use Rattle.ff_rec.specs.declared.fault.LineFault.{LineFault}
-use Rattle.ff_rec.specs.declared.fault.LineFault.TheVariants.{TooLong, TooManyFields, InputTooLong}
+use Rattle.ff_rec.specs.declared.fault.LineFault.TheVariants.{TooLong, TooManyFields}
+use Rattle.ff_rec.specs.Limits.{IsWithin}
 use Rattle.ff_rec.specs.Lines.{tabs}
 use Rattle.ff_rec.specs.Pieces.{Lacks}
 use Rattle.ff_rec.specs.Reading.{line_fault}
@@ -110,10 +110,6 @@ line_fault-number limit n line f =
     some_is e = cc
 
 -- a line that passes none is short and has few tabs
-pub record IsWithin (limit : ℕ) (line : List ℕ) : Type 0 where
-  pub few : tabs line ≤ 63
-  pub short : length line ≤ limit
-
 pub IsWithin-none : (limit n : ℕ) (line : List ℕ) → line_fault limit n line ≡ None → IsWithin limit line
 IsWithin-none limit n line =
     line_fault-cases limit n line (λ o. o ≡ None → IsWithin limit line) (λ h is. cc) (λ h g is. cc)

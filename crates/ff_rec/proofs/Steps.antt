@@ -1,6 +1,6 @@
 -- What the steps of reading a piece leave, by their answers.
 use Rattle.std.proofs.Common.{◌≡◌, ℕ, ◌+◌, ◌≤◌, List, [], ◌∷◌, ◌++◌, length, take, min, take_all, Option, None, Some, Result, Ok, Err, refl, sym, ap, ◌∙◌, subst, arith}
-use Rattle.std.specs.Prelude.{OnOk, OnErr, IfErr}
+use Rattle.std.specs.Prelude.{OnOk, IfErr}
 use Rattle.std.proofs.lemmas.List.{append-nil, take-append-le}
 use Rattle.ff_rec.specs.declared.fault.LineFault.{LineFault}
 use Rattle.ff_rec.specs.declared.fault.FeedFault.{FeedFault}
@@ -8,7 +8,7 @@ use Rattle.ff_rec.specs.declared.fault.FeedFault.TheVariants.{Line, NoMemory}
 use Rattle.ff_rec.specs.declared.fault.LineFault.TheVariants.{InputTooLong}
 use Rattle.ff_rec.specs.declared.line_reader.progress.Limits.{Limits}
 use Rattle.ff_rec.specs.declared.line_reader.progress.Progress.{Progress}
-use Rattle.ff_rec.specs.Lines.{Rec, tabs, cut}
+use Rattle.ff_rec.specs.Lines.{Rec, cut}
 use Rattle.ff_rec.specs.Pieces.{Lacks}
 use Rattle.ff_rec.specs.Progress.{IsReady, KeepsPart, EndsLine, IsLineFault, reading_of, state_of, left_by}
 use Rattle.ff_rec.specs.Reading.{Reading, reading, refused, line_fault, after, given, after-append, given-append, UnlessMemory}

@@ -1,171 +1,19 @@
 -- Reading byte by byte is cutting the text at its newlines, up to the first limit that it passes.
-use Rattle.std.proofs.Common.{◌≡◌, ◌≢◌, ◌⊎◌, inl, inr, ℕ, zero, suc, ◌+◌, ◌-◌, ◌<◌, ◌≤◌, Bool, true, false, ltb, leb, eqb, cond, List, [], ◌∷◌, ◌++◌, length, take, map, Option, None, Some, refl, sym, ap, ap₂, ◌∙◌, subst, arith, append_assoc, lt-ltb, eqb-true, eq-eqb}
-use Rattle.std.proofs.lemmas.Bool.{cond-true, cond-false, ltb-true, ltb-false, leb-true, leb-false, le-ltb, both_ways, cases_lt}
-use Rattle.std.proofs.Math.Dec.{leb-suc-suc}
+use Rattle.std.proofs.Common.{◌≡◌, ◌≢◌, ◌⊎◌, inl, inr, ℕ, suc, ◌+◌, ◌-◌, ◌<◌, ◌≤◌, Bool, true, false, eqb, cond, List, [], ◌∷◌, ◌++◌, take, Option, None, Some, refl, sym, ap, ap₂, ◌∙◌, subst, arith, append_assoc, eqb-true, eq-eqb}
+use Rattle.std.proofs.lemmas.Bool.{both_ways, cases_lt}
 use Rattle.std.proofs.lemmas.List.{append-nil}
 use Rattle.std.specs.Prelude.{option_map}
 use Rattle.ff_rec.specs.declared.fault.LineFault.{LineFault}
 use Rattle.ff_rec.specs.declared.fault.LineFault.TheVariants.{TooLong, TooManyFields, InputTooLong}
-use Rattle.ff_rec.specs.declared.fault.FeedFault.{FeedFault}
 use Rattle.ff_rec.specs.declared.fault.FeedFault.TheVariants.{Line}
-use Rattle.ff_rec.specs.Lines.{Rec, cut, without_last, without_empty_last, lines, whole_lines, records, whole}
-use Rattle.ff_rec.specs.Limits.{or_later, lines_fault, input_fault, limit, seen_by, seen, IsCut, ReadingLaw}
+use Rattle.ff_rec.specs.Lines.{Rec, cut, lines, records, whole}
+use Rattle.ff_rec.specs.Limits.{or_later, lines_fault, input_fault, limit, seen_by, ReadingLaw}
 use Rattle.ff_rec.specs.Pieces.{Lacks}
-use Rattle.ff_rec.specs.Reading.{Reading, line_fault, reading, opening, refused, after, given, last_given}
-use Rattle.ff_rec.proofs.Cuts.{cut-Lacks, cut-split}
-use Rattle.ff_rec.proofs.Joins.{HasFirst, HasFirst-cut}
-use Rattle.ff_rec.proofs.LineLimits.{line_fault-append, line_fault-within, line_fault-cases, line_fault-number, IsOfLine, long, many, Lacks-append}
+use Rattle.ff_rec.specs.Reading.{Reading, line_fault, reading, after, given, last_given}
+use Rattle.ff_rec.proofs.LineLimits.{line_fault-within, line_fault-number, IsOfLine, long, many, Lacks-append}
+use Rattle.ff_rec.proofs.FirstLimits.{IsFrom, IsFrom-or_later, IsFrom-lines_fault, IsFrom-input_fault, first_limit, first_limit-end, first_limit-full, first_limit-newline, first_limit-other, first_limit-fault}
+use Rattle.ff_rec.proofs.WholeLines.{records-newline, whole-newline, whole-Lacks, records-Lacks, seen_by-begins}
 use Rattle.ff_rec.proofs.Feeding.{after-newline, given-newline, after-other, given-other, after-fault, given-fault, byte_fault-full, byte_fault-other}
-
-without_empty_last-more : (p q : List ℕ) (qs : List (List ℕ)) → without_empty_last (p ∷ q ∷ qs) ≡ p ∷ without_empty_last (q ∷ qs)
-without_empty_last-more [] q qs = refl
-without_empty_last-more (c ∷ cs) q qs = refl
-
--- the lines of a line, its newline and more
-lines-newline : (line rest : List ℕ) → Lacks 10 line → lines (line ++ 10 ∷ rest) ≡ line ∷ lines rest
-lines-newline line rest clean =
-    let h = HasFirst-cut 10 rest in
-    ap without_empty_last (cut-split 10 line rest clean ∙ ap (λ (ps : List (List ℕ)). line ∷ ps) h.is)
-    ∙ without_empty_last-more line h.first h.others
-    ∙ ap (λ (ps : List (List ℕ)). line ∷ without_empty_last ps) (sym h.is)
-
-whole_lines-newline : (line rest : List ℕ) → Lacks 10 line → whole_lines (line ++ 10 ∷ rest) ≡ line ∷ whole_lines rest
-whole_lines-newline line rest clean =
-    let h = HasFirst-cut 10 rest in
-    ap without_last (cut-split 10 line rest clean ∙ ap (λ (ps : List (List ℕ)). line ∷ ps) h.is)
-    ∙ ap (λ (ps : List (List ℕ)). line ∷ without_last ps) (sym h.is)
-
-records-newline : (line rest : List ℕ) → Lacks 10 line → records (line ++ 10 ∷ rest) ≡ cut 9 line ∷ records rest
-records-newline line rest clean = ap (map (cut 9)) (lines-newline line rest clean)
-
-whole-newline : (line rest : List ℕ) → Lacks 10 line → whole (line ++ 10 ∷ rest) ≡ cut 9 line ∷ whole rest
-whole-newline line rest clean = ap (map (cut 9)) (whole_lines-newline line rest clean)
-
--- a line without a newline
-whole-Lacks : (line : List ℕ) → Lacks 10 line → whole line ≡ []
-whole-Lacks line clean = ap (λ (ps : List (List ℕ)). map (cut 9) (without_last ps)) (cut-Lacks 10 line clean)
-
-records-Lacks : (line : List ℕ) → Lacks 10 line → records line ≡ last_given line
-records-Lacks [] clean = refl
-records-Lacks (c ∷ cs) clean = ap (λ (ps : List (List ℕ)). map (cut 9) (without_empty_last ps)) (cut-Lacks 10 (c ∷ cs) clean)
-
--- its limits are those of the only line
-lines_fault-line : (l n : ℕ) (line : List ℕ) → Lacks 10 line → line_fault l n line ≡ None → lines_fault l n (lines line) ≡ None
-lines_fault-line l n [] clean fits = refl
-lines_fault-line l n (c ∷ cs) clean fits =
-    ap (λ (ps : List (List ℕ)). lines_fault l n (without_empty_last ps)) (cut-Lacks 10 (c ∷ cs) clean) ∙ ap (λ (o : Option LineFault). or_later o None) fits
-
--- a first line that passes a limit, whatever stands behind it
-lines_fault-first : (l n : ℕ) (line rest : List ℕ) (f : LineFault) → Lacks 10 line → line_fault l n line ≡ Some f → lines_fault l n (lines (line ++ rest)) ≡ Some f
-lines_fault-first l n [] rest f clean is = let e : line_fault l n [] ≡ None = line_fault-within l n [] (omega arith) (omega arith) in cc
-lines_fault-first l n (b ∷ bs) [] f clean is =
-    ap (λ (line : List ℕ). lines_fault l n (lines line)) (append-nil (b ∷ bs))
-    ∙ ap (λ (ps : List (List ℕ)). lines_fault l n (without_empty_last ps)) (cut-Lacks 10 (b ∷ bs) clean)
-    ∙ ap (λ (o : Option LineFault). or_later o None) is
-lines_fault-first l n (b ∷ bs) (c ∷ cs) f clean is =
-    by (eqb c 10) refl
-    (λ other. lines_fault-first l n ((b ∷ bs) ++ c ∷ []) cs f (Lacks-append 10 (b ∷ bs) (c ∷ []) clean (other, tt)) (line_fault-append l n (b ∷ bs) (c ∷ []) f is))
-  where
-    by : (e : Bool) → eqb c 10 ≡ e
-        → (c ≢ 10 → lines_fault l n (lines (((b ∷ bs) ++ c ∷ []) ++ cs)) ≡ Some f)
-        → lines_fault l n (lines ((b ∷ bs) ++ c ∷ cs)) ≡ Some f
-    by true newline more =
-        ap (λ k. lines_fault l n (lines ((b ∷ bs) ++ k ∷ cs))) (eqb-true c 10 newline)
-        ∙ ap (lines_fault l n) (lines-newline (b ∷ bs) cs clean)
-        ∙ ap (λ (o : Option LineFault). or_later o (lines_fault l (n + 1) (lines cs))) is
-    by false other more =
-        ap (λ (line : List ℕ). lines_fault l n (lines line)) (sym (append_assoc (b ∷ bs) (c ∷ []) cs))
-        ∙ more (λ is10. both_ways (eqb c 10) other (eq-eqb c 10 is10))
-
--- no line before number `n` is named
-abbrev IsFrom : ℕ → Option LineFault → Type 0
-IsFrom n None = Unit {0}
-IsFrom n (Some (TooLong m)) = n ≤ m
-IsFrom n (Some (TooManyFields m)) = n ≤ m
-IsFrom n (Some InputTooLong) = Unit {0}
-
-IsFrom-less : (n k : ℕ) (o : Option LineFault) → n ≤ k → IsFrom k o → IsFrom n o
-IsFrom-less n k None le h = tt
-IsFrom-less n k (Some (TooLong m)) le h = omega arith
-IsFrom-less n k (Some (TooManyFields m)) le h = omega arith
-IsFrom-less n k (Some InputTooLong) le h = tt
-
-IsFrom-or_later : (n : ℕ) (o later : Option LineFault) → IsFrom n o → IsFrom n later → IsFrom n (or_later o later)
-IsFrom-or_later n None later h g = g
-IsFrom-or_later n (Some f) later h g = h
-
-IsFrom-lines_fault : (l n : ℕ) (ls : List (List ℕ)) → IsFrom n (lines_fault l n ls)
-IsFrom-lines_fault l n [] = tt
-IsFrom-lines_fault l n (line ∷ others) =
-    IsFrom-or_later n (line_fault l n line) (lines_fault l (n + 1) others)
-    (line_fault-cases l n line (IsFrom n) (λ h. omega arith) (λ h g. omega arith) (λ h g. tt))
-    (IsFrom-less n (n + 1) (lines_fault l (n + 1) others) (omega arith) (IsFrom-lines_fault l (n + 1) others))
-
-IsFrom-input_fault : (n room : ℕ) (b : List ℕ) → IsFrom n (input_fault room b)
-IsFrom-input_fault n room b = by (ltb room (length b))
-  where
-    by : (e : Bool) → IsFrom n (cond e (Some InputTooLong) None)
-    by true = tt
-    by false = tt
-
--- the first limit that a text passes from a place on
-abbrev first_limit : ℕ → ℕ → ℕ → ℕ → List ℕ → List ℕ → Option LineFault
-first_limit l i t n line b = or_later (lines_fault l (n + 1) (lines (line ++ take (i - t) b))) (input_fault (i - t) b)
-
-take-nil : (k : ℕ) → take {A = ℕ} k [] ≡ []
-take-nil zero = refl
-take-nil (suc k) = refl
-
--- nothing is left: no limit
-first_limit-end : (l i t n : ℕ) (line : List ℕ) → Lacks 10 line → line_fault l (n + 1) line ≡ None → first_limit l i t n line [] ≡ None
-first_limit-end l i t n line clean fits =
-    ap (λ (bs : List ℕ). or_later (lines_fault l (n + 1) (lines (line ++ bs))) (input_fault (i - t) [])) (take-nil (i - t))
-    ∙ ap (λ (bs : List ℕ). or_later (lines_fault l (n + 1) (lines bs)) (input_fault (i - t) [])) (append-nil line)
-    ∙ ap (λ (o : Option LineFault). or_later o (input_fault (i - t) [])) (lines_fault-line l (n + 1) line clean fits)
-    ∙ cond-false _ _ _ (le-ltb (i - t) 0 (omega arith))
-
--- no room is left: the limit of the input
-first_limit-full : (l i t n : ℕ) (line : List ℕ) (c : ℕ) (cs : List ℕ) → i ≤ t → Lacks 10 line → line_fault l (n + 1) line ≡ None
-    → first_limit l i t n line (c ∷ cs) ≡ Some InputTooLong
-first_limit-full l i t n line c cs full clean fits =
-    let e : i - t ≡ 0 = omega arith in
-    ap (λ k. or_later (lines_fault l (n + 1) (lines (line ++ take k (c ∷ cs)))) (input_fault k (c ∷ cs))) e
-    ∙ ap (λ (bs : List ℕ). or_later (lines_fault l (n + 1) (lines bs)) (input_fault 0 (c ∷ cs))) (append-nil line)
-    ∙ ap (λ (o : Option LineFault). or_later o (input_fault 0 (c ∷ cs))) (lines_fault-line l (n + 1) line clean fits)
-    ∙ cond-true _ _ _ (lt-ltb 0 (length (c ∷ cs)) (omega arith))
-
-input_fault-more : (room : ℕ) (c : ℕ) (cs : List ℕ) → input_fault (suc room) (c ∷ cs) ≡ input_fault room cs
-input_fault-more room c cs = ap (λ b. cond b (Some InputTooLong) None) (leb-suc-suc (suc room) (length cs))
-
--- there is room for a byte
-first_limit-room : (l i t n : ℕ) (line : List ℕ) (c : ℕ) (cs : List ℕ) → t < i
-    → first_limit l i t n line (c ∷ cs) ≡ or_later (lines_fault l (n + 1) (lines (line ++ c ∷ take (i - (t + 1)) cs))) (input_fault (i - (t + 1)) cs)
-first_limit-room l i t n line c cs room =
-    let e : i - t ≡ suc (i - (t + 1)) = omega arith in
-    ap (λ k. or_later (lines_fault l (n + 1) (lines (line ++ take k (c ∷ cs)))) (input_fault k (c ∷ cs))) e
-    ∙ ap (or_later (lines_fault l (n + 1) (lines (line ++ c ∷ take (i - (t + 1)) cs)))) (input_fault-more (i - (t + 1)) c cs)
-
-first_limit-newline : (l i t n : ℕ) (line cs : List ℕ) → t < i → Lacks 10 line → line_fault l (n + 1) line ≡ None
-    → first_limit l i t n line (10 ∷ cs) ≡ first_limit l i (t + 1) (n + 1) [] cs
-first_limit-newline l i t n line cs room clean fits =
-    let rest = take (i - (t + 1)) cs in
-    first_limit-room l i t n line 10 cs room
-    ∙ ap (λ (ls : List (List ℕ)). or_later (lines_fault l (n + 1) ls) (input_fault (i - (t + 1)) cs)) (lines-newline line rest clean)
-    ∙ ap (λ (o : Option LineFault). or_later (or_later o (lines_fault l (n + 1 + 1) (lines rest))) (input_fault (i - (t + 1)) cs)) fits
-
-first_limit-other : (l i t n : ℕ) (line : List ℕ) (c : ℕ) (cs : List ℕ) → t < i
-    → first_limit l i t n line (c ∷ cs) ≡ first_limit l i (t + 1) n (line ++ c ∷ []) cs
-first_limit-other l i t n line c cs room =
-    let rest = take (i - (t + 1)) cs in
-    first_limit-room l i t n line c cs room
-    ∙ ap (λ (bs : List ℕ). or_later (lines_fault l (n + 1) (lines bs)) (input_fault (i - (t + 1)) cs)) (sym (append_assoc line (c ∷ []) rest))
-
-first_limit-fault : (l i t n : ℕ) (line : List ℕ) (c : ℕ) (cs : List ℕ) (f : LineFault) → t < i → Lacks 10 line → c ≢ 10
-    → line_fault l (n + 1) (line ++ c ∷ []) ≡ Some f → first_limit l i t n line (c ∷ cs) ≡ Some f
-first_limit-fault l i t n line c cs f room clean other is =
-    first_limit-other l i t n line c cs room
-    ∙ ap (λ (o : Option LineFault). or_later o (input_fault (i - (t + 1)) cs))
-    (lines_fault-first l (n + 1) (line ++ c ∷ []) (take (i - (t + 1)) cs) f (Lacks-append 10 line (c ∷ []) clean (other, tt)) is)
 
 -- what is read from a place on, by the first limit that is passed there
 seen_from : Option LineFault → Bool → ℕ → ℕ → List ℕ → List ℕ → List Rec
@@ -325,5 +173,6 @@ reading-law l i b =
     record {
       fault = h.fault ∙ ap (option_map Line) same;
       going = h.going ∙ seen_from-opening (first_limit l i 0 0 [] b) false i b ∙ ap (λ (o : Option LineFault). seen_by o i b false) same;
+      begins = seen_by-begins (limit l i b) i b;
       at_end = h.at_end ∙ seen_from-opening (first_limit l i 0 0 [] b) true i b ∙ ap (λ (o : Option LineFault). seen_by o i b true) same;
     }

@@ -1,10 +1,10 @@
 -- The limits of a text on the whole, and what is read of it up to the first that it passes.
-use Rattle.std.specs.Prelude.{◌≡◌, ℕ, ◌+◌, ◌-◌, nat_lt, Bool, true, false, if◌then◌else◌, List, [], ◌∷◌, ◌++◌, length, take, Option, None, Some, option_map}
+use Rattle.std.specs.Prelude.{◌≡◌, ◌↔◌, ℕ, ◌+◌, ◌-◌, ◌≤◌, nat_lt, Bool, true, false, if◌then◌else◌, List, [], ◌∷◌, ◌++◌, length, take, Option, None, Some, option_map}
+use Rattle.std.specs.List.{AllByRecursion}
 use Rattle.ff_rec.specs.declared.fault.LineFault.{LineFault}
 use Rattle.ff_rec.specs.declared.fault.LineFault.TheVariants.{TooLong, TooManyFields, InputTooLong}
-use Rattle.ff_rec.specs.declared.fault.FeedFault.{FeedFault}
 use Rattle.ff_rec.specs.declared.fault.FeedFault.TheVariants.{Line}
-use Rattle.ff_rec.specs.Lines.{Rec, lines, records, whole}
+use Rattle.ff_rec.specs.Lines.{Rec, tabs, lines, records, whole}
 use Rattle.ff_rec.specs.Reading.{line_fault, opening, after, given, last_given}
 
 -- the first, or else the second
@@ -36,11 +36,27 @@ seen_by (Some InputTooLong) most bytes ended = whole (take most bytes)
 abbrev pub seen : ℕ → ℕ → List ℕ → Bool → List Rec
 seen line_limit most bytes ended = seen_by (limit line_limit most bytes) most bytes ended
 
+-- some of these records, from the first on
+pub record IsBeginning (some all : List Rec) : Type 0 where
+  pub others : List Rec
+  pub is : all ≡ some ++ others
+
 -- reading byte by byte is cutting the text at its newlines, up to the first limit that it passes
 pub record IsCut (line_limit most : ℕ) (bytes : List ℕ) : Type 0 where
   pub fault : (after (opening line_limit most) bytes).fault ≡ option_map Line (limit line_limit most bytes)
   pub going : given (opening line_limit most) bytes ≡ seen line_limit most bytes false
+  pub begins : IsBeginning (seen line_limit most bytes false) (records bytes)
   pub at_end : given (opening line_limit most) bytes ++ last_given (after (opening line_limit most) bytes).line ≡ seen line_limit most bytes true
 
 abbrev pub ReadingLaw : Type 0
 ReadingLaw = (line_limit most : ℕ) (bytes : List ℕ) → IsCut line_limit most bytes
+
+-- a line with at most so many bytes, and at most 63 tabs
+pub record IsWithin (line_limit : ℕ) (line : List ℕ) : Type 0 where
+  pub few : tabs line ≤ 63
+  pub short : length line ≤ line_limit
+
+-- a text passes no limit just where it and each of its lines is within them
+abbrev pub LimitLaw : Type 0
+LimitLaw = (line_limit most : ℕ) (bytes : List ℕ)
+    → (limit line_limit most bytes ≡ None) ↔ ((length bytes ≤ most) × AllByRecursion (IsWithin line_limit) (lines bytes))

@@ -1,6 +1,6 @@
 // What holds of the words of this crate's contracts, whatever the call.
 ghost use Rattle.ff_rec.specs.Contents.{ContentsLaw};
-ghost use Rattle.ff_rec.specs.Limits.{ReadingLaw};
+ghost use Rattle.ff_rec.specs.Limits.{LimitLaw, ReadingLaw};
 ghost use Rattle.ff_rec.specs.Number.{PrintedIsRead};
 ghost use Rattle.ff_rec.specs.Times.{SameIsCounts};
 
@@ -22,4 +22,9 @@ pub fn contents_rise_and_are_what_occurs()
 /// What a `LineReader` reads of a text in pieces is the text cut at its newlines, up to the first limit that it passes.
 pub fn reading_is_cutting()
     ensures { ReadingLaw }
+{}
+
+/// A text passes no limit just where it and each of its lines is within them.
+pub fn a_text_within_its_limits_passes_none()
+    ensures { LimitLaw }
 {}

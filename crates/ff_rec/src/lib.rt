@@ -15,8 +15,8 @@ mod tabs;
 pub use fault::{CutFault, FeedFault, FieldFault, Kept, LineFault, NoMemory, PushFault};
 pub use field::Field;
 pub use laws::{
-    contents_rise_and_are_what_occurs, printed_numbers_are_read, reading_is_cutting,
-    same_is_each_record_as_often,
+    a_text_within_its_limits_passes_none, contents_rise_and_are_what_occurs,
+    printed_numbers_are_read, reading_is_cutting, same_is_each_record_as_often,
 };
 pub use line_reader::LineReader;
 pub use msg::Msg;

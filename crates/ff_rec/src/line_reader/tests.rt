@@ -14,16 +14,26 @@ fn text_of(alloc: Global, records: &Vec<Record>) -> Result<Vec<u8>, Fail> {
     Ok(text)
 }
 
+// The reader answers this to the piece.
+fn feed(
+    rt: &impl Abort,
+    reader: &mut LineReader,
+    piece: &[u8],
+    into: &mut Vec<Record>,
+    want: Result<(), FeedFault>,
+) {
+    assert_eq!(rt; reader.feed(piece, into), want);
+}
+
 #[test]
 fn line_reader_keeps_its_refusal(rt: HostRuntime) -> Result<(), Fail> {
     let mut reader = LineReader::new(rt.alloc(), 10, 4)?;
     let mut into = Vec::new(rt.alloc());
-    assert_eq!(rt; reader.feed(b"ab\n", &mut into), Ok(()));
+    feed(&rt, &mut reader, b"ab\n", &mut into, Ok(()));
     assert_eq!(rt; reader.fault(), None);
     let too_long = Err(FeedFault::Line(LineFault::InputTooLong));
-    assert_eq!(rt; reader.feed(b"cd", &mut into), too_long);
-    for piece in ["", "\n", "e\nf\n"] {
-        assert_eq!(rt; reader.feed(piece.as_bytes(), &mut into), too_long);
+    for piece in ["cd", "", "\n", "e\nf\n"] {
+        feed(&rt, &mut reader, piece.as_bytes(), &mut into, too_long);
     }
     assert_eq!(rt;
         reader.fault(),
@@ -42,34 +52,33 @@ fn line_of(alloc: Global, len: usize) -> Result<Vec<u8>, Fail> {
 }
 
 #[test]
-fn long_lines_and_many_fields(rt: HostRuntime) -> Result<(), Fail> {
+fn long_lines(rt: HostRuntime) -> Result<(), Fail> {
     let mut reader = LineReader::new(rt.alloc(), 65_536, 1 << 40)?;
     let mut into = Vec::new(rt.alloc());
-    assert_eq!(rt;
-        reader.feed(line_of(rt.alloc(), 65_536)?.as_slice(), &mut into),
-        Ok(())
-    );
+    let longest = line_of(rt.alloc(), 65_536)?;
+    feed(&rt, &mut reader, longest.as_slice(), &mut into, Ok(()));
+    assert_eq!(rt; text_of(rt.alloc(), &into)?.as_slice(), longest.as_slice());
+    let long = line_of(rt.alloc(), 65_537)?;
+    let too_long = Err(FeedFault::Line(LineFault::TooLong(2)));
+    feed(&rt, &mut reader, long.as_slice(), &mut into, too_long);
     assert_eq!(rt; into.len(), 1);
-    assert_eq!(rt; into[0].joined().len(), 65_536);
-    assert_eq!(rt;
-        reader.feed(line_of(rt.alloc(), 65_537)?.as_slice(), &mut into),
-        Err(FeedFault::Line(LineFault::TooLong(2)))
-    );
-    assert_eq!(rt; into.len(), 1);
+    Ok(())
+}
 
+#[test]
+fn many_fields(rt: HostRuntime) -> Result<(), Fail> {
     let mut reader = LineReader::new(rt.alloc(), 65_536, 1 << 40)?;
+    let mut into = Vec::new(rt.alloc());
     let mut wide = Vec::new(rt.alloc());
     wide.resize(63, b'\t')?;
-    assert_eq!(rt; reader.feed(wide.as_slice(), &mut into), Ok(()));
-    assert_eq!(rt; reader.feed(b"\na\nb", &mut into), Ok(()));
-    assert_eq!(rt; into.len(), 3);
-    assert_eq!(rt; into[1].len(), 64);
-    assert_eq!(rt; reader.feed(wide.as_slice(), &mut into), Ok(()));
-    assert_eq!(rt;
-        reader.feed(b"\t", &mut into),
-        Err(FeedFault::Line(LineFault::TooManyFields(3)))
-    );
-    assert_eq!(rt; into.len(), 3);
+    feed(&rt, &mut reader, wide.as_slice(), &mut into, Ok(()));
+    feed(&rt, &mut reader, b"\na\nb", &mut into, Ok(()));
+    assert_eq!(rt; into.len(), 2);
+    assert_eq!(rt; into[0].len(), 64);
+    feed(&rt, &mut reader, wide.as_slice(), &mut into, Ok(()));
+    let too_many = Err(FeedFault::Line(LineFault::TooManyFields(3)));
+    feed(&rt, &mut reader, b"\t", &mut into, too_many);
+    assert_eq!(rt; into.len(), 2);
     Ok(())
 }
 
@@ -123,16 +132,12 @@ fn every_cutting_into_pieces_gives_the_same_records(rt: HostRuntime) -> Result<(
         for byte in b"a\n\nb\tc\n\t\td\ne".as_slice() {
             piece.push(*byte)?;
             if cuts % 2 == 1 {
-                assert_eq!(rt; reader.feed(piece.as_slice(), &mut into), Ok(()));
+                feed(&rt, &mut reader, piece.as_slice(), &mut into, Ok(()));
                 piece.clear();
             }
             cuts /= 2;
         }
-        assert_eq!(rt;
-            reader.feed(piece.as_slice(), &mut into),
-            Ok(()),
-            "{cutting}"
-        );
+        feed(&rt, &mut reader, piece.as_slice(), &mut into, Ok(()));
         assert_eq!(rt; into.len(), 4, "{cutting}");
         assert_eq!(rt; reader.fault(), None);
         reader.finish(&mut into)?;

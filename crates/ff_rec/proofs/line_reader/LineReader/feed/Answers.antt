@@ -1,10 +1,10 @@
 -- After a refusal nothing is read.
-use Rattle.std.proofs.Common.{◌≡◌, List, [], ◌++◌, Some, Err, sym, ap, ◌∙◌}
+use Rattle.std.proofs.Common.{◌≡◌, List, ◌++◌, Some, Err, sym, ap, ◌∙◌}
 use Rattle.std.proofs.lemmas.List.{append-nil}
 use Rattle.ff_rec.specs.declared.fault.FeedFault.{FeedFault}
 use Rattle.ff_rec.specs.declared.fault.FeedFault.TheVariants.{Line, NoMemory}
 use Rattle.ff_rec.specs.Lines.{Rec}
-use Rattle.ff_rec.specs.Reading.{Reading, after, given, UnlessMemory}
+use Rattle.ff_rec.specs.Reading.{Reading, UnlessMemory}
 use Rattle.ff_rec.proofs.Feeding.{after-stays, given-stays}
 use Rattle.ff_rec.proofs.Steps.{state_of-fault}
 use Rattle.ff_rec.proofs.line_reader.LineReader.feed.Goals as goal

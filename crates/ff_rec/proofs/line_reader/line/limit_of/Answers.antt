@@ -1,5 +1,5 @@
 -- The tabs within the limit are those of the line and those of the part within the room that is left.
-use Rattle.std.proofs.Common.{◌≡◌, ℕ, ◌+◌, ◌-◌, ◌<◌, ◌≤◌, List, ◌++◌, length, take, min, sym, ap, ◌∙◌, arith, length-append}
+use Rattle.std.proofs.Common.{◌++◌, take, sym, ap, ◌∙◌, arith, length-append}
 use Rattle.ff_rec.specs.Lines.{tabs}
 use Rattle.ff_rec.proofs.LineLimits.{tabs-room, line_fault-many, line_fault-long, line_fault-none}
 use Rattle.ff_rec.proofs.line_reader.line.limit_of.Goals as goal

@@ -3,8 +3,7 @@ use Rattle.std.proofs.Common.{◌≡◌, ◌+◌, ◌++◌, ◌≤◌, length, N
 use Rattle.ff_rec.specs.Lines.{tabs}
 use Rattle.ff_rec.specs.Pieces.{Lacks}
 use Rattle.ff_rec.specs.Reading.{line_fault}
-use Rattle.ff_rec.proofs.LineLimits.{tabs-append, IsWithin, IsWithin-none, Lacks-append}
-use Rattle.ff_rec.proofs.Feeding.{HasRead-line}
+use Rattle.ff_rec.proofs.LineLimits.{tabs-append, IsWithin-none, Lacks-append}
 use Rattle.ff_rec.proofs.line_reader.steps.keep_part.Goals as goal
 
 pub returns-in-Ok-clause-ok : goal.returns-in-Ok-clause-ok

@@ -1,8 +1,8 @@
 -- The bytes that there is room for were read, and then those behind them.
-use Rattle.std.proofs.Common.{◌≡◌, ◌+◌, ◌-◌, ◌++◌, ◌≤◌, List, ℕ, length, take, drop, Err, sym, ap, ◌∙◌, arith, take-append-drop, length-take, length-drop}
+use Rattle.std.proofs.Common.{◌-◌, take, drop, arith, take-append-drop, length-take, length-drop}
 use Rattle.std.proofs.lemmas.Result.{err_from_is_err_and}
-use Rattle.ff_rec.specs.Progress.{reading_of, left_by}
-use Rattle.ff_rec.specs.Reading.{after, given, UnlessMemory}
+use Rattle.ff_rec.specs.Progress.{reading_of}
+use Rattle.ff_rec.specs.Reading.{given}
 use Rattle.ff_rec.proofs.Steps.{first-all, front-first, front-state, front-records, full-state, full-records}
 use Rattle.ff_rec.proofs.line_reader.steps.read.Goals as goal
 

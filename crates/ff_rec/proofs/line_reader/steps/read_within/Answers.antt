@@ -1,9 +1,8 @@
 -- What the loop has done, and the line that it stands at.
-use Rattle.std.proofs.Common.{◌≡◌, ◌+◌, ◌++◌, ◌∷◌, ◌≤◌, length, List, ℕ, Err, refl, sym, ap, ◌∙◌, subst, arith, length-append, Bor}
+use Rattle.std.proofs.Common.{◌≡◌, ◌+◌, ◌++◌, ◌∷◌, ◌≤◌, length, List, ℕ, sym, ap, ◌∙◌, subst, arith, length-append, Bor}
 use Rattle.std.proofs.lemmas.Result.{err_from_is_err_and}
 use Rattle.ff_rec.specs.Pieces.{whole_of}
-use Rattle.ff_rec.specs.Progress.{IsReady, KeepsPart, EndsLine, IsLineFault, reading_of, left_by}
-use Rattle.ff_rec.specs.Reading.{line_fault, after, given, UnlessMemory}
+use Rattle.ff_rec.specs.Progress.{reading_of}
 use Rattle.ff_rec.proofs.Feeding.{HasRead, HasRead-first}
 use Rattle.ff_rec.proofs.Steps.{HasRead-EndsLine, fault-state, fault-records, last-state, last-records}
 use Rattle.ff_rec.proofs.line_reader.steps.read_within.Goals as goal
