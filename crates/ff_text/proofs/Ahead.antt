@@ -1,7 +1,8 @@
 -- The spots ahead, one lexeme after another.
-use Rattle.std.proofs.Common.{◌≡◌, ◌≢◌, ℕ, zero, suc, ◌+◌, ◌-◌, ◌<◌, ◌≤◌, List, [], ◌∷◌, length, get_or, take, drop, Some, refl, sym, ap, ◌∙◌, arith, one-add, length-drop}
+use Rattle.std.proofs.Common.{◌≡◌, ◌≢◌, ℕ, zero, suc, ◌+◌, ◌-◌, ◌<◌, ◌≤◌, List, [], ◌∷◌, length, get_or, take, drop, Some, refl, sym, ap, subst, ◌∙◌, arith, one-add, length-drop}
 use Rattle.std.proofs.lemmas.List.{take_all, drop-drop}
-use Rattle.ff_text.specs.Tokens.{Token, Word, Number, Sign, Quoted, Bad, Stop, Spot}
+use Rattle.std.specs.Option.{MatchOption}
+use Rattle.ff_text.specs.Tokens.{Token, Word, Number, Sign, Quoted, Bad, Stop, HasPlainText, Spot}
 use Rattle.ff_text.proofs.Inside.{IsInside-lexeme}
 use Rattle.ff_text.specs.Seen.{behind}
 use Rattle.ff_text.specs.Cutting.{Lexeme, lexeme, put, spots, ahead}
@@ -45,12 +46,14 @@ behind-other Bad rest h = refl
 behind-other Stop rest h = absurd (h refl)
 
 -- the token at a place of a text
-pub ahead-token : (text : List ℕ) (at : ℕ) (l : Lexeme) (t : Token) → l ≡ lexeme (get_or (drop at text) 0 0) (drop 1 (drop at text)) → l.more < length (drop at text) → l.token ≡ Some t → (t ≢ Stop) × (ahead text at ≡ record { token = t; at = at } ∷ behind t (ahead text (at + (1 + l.more))))
+pub ahead-token : (text : List ℕ) (at : ℕ) (l : Lexeme) (t : Token) → l ≡ lexeme (get_or (drop at text) 0 0) (drop 1 (drop at text)) → l.more < length (drop at text) → l.token ≡ Some t → (t ≢ Stop) × (ahead text at ≡ record { token = t; at = at } ∷ behind t (ahead text (at + (1 + l.more)))) × HasPlainText t
 ahead-token text at l t is within token =
     let here = IsInside-lexeme (get_or (drop at text) 0 0) (drop 1 (drop at text)) in
-    let other : t ≢ Stop = λ e. here.other (ap (λ m. m.token) (sym is) ∙ token ∙ ap (λ u. Some u) e) in (
+    let same = ap (λ m. m.token) (sym is) ∙ token in
+    let other : t ≢ Stop = λ e. here.other (same ∙ ap (λ u. Some u) e) in (
       other,
       ahead-lexeme text at l is within
           ∙ ap (λ o. put o at (ahead text (at + (1 + l.more)))) token
           ∙ ap (λ rest. record { token = t; at = at } ∷ rest) (sym (behind-other t (ahead text (at + (1 + l.more))) other)),
+      subst (λ o. MatchOption o (Unit {0}) HasPlainText) same here.plain,
     )

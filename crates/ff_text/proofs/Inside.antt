@@ -1,9 +1,11 @@
--- No lexeme is the end of a text, and none goes beyond it.
-use Rattle.std.proofs.Common.{◌≡◌, ◌≢◌, ◌==◌, ◌<◌, ◌≤◌, Bool, true, false, cond, ℕ, suc, List, [], ◌∷◌, drop, length, Some, refl, arith, length-drop}
+-- No lexeme is the end of a text, none goes beyond it, and a text in quotes may be a field.
+use Rattle.std.proofs.Common.{◌≡◌, ◌≢◌, ◌==◌, ◌+◌, ◌<◌, ◌≤◌, Bool, true, false, cond, ℕ, suc, List, [], ◌∷◌, take, drop, length, Some, refl, subst, arith, one-add, length-drop}
 use Rattle.std.specs.List.{prefix_len}
 use Rattle.std.specs.Char.{is_ascii_lowercase, is_ascii_digit}
 use Rattle.std.proofs.lemmas.List.Sums.{prefix_len-le-length}
-use Rattle.ff_text.specs.Tokens.{Token, Sign, Bad, Stop}
+use Rattle.std.specs.Option.{MatchOption}
+use Rattle.ff_rec.specs.Lines.{IsPlainByte, IsPlain}
+use Rattle.ff_text.specs.Tokens.{Token, Sign, Bad, Stop, HasPlainText}
 use Rattle.ff_text.specs.declared.mark.Mark.{Mark}
 use Rattle.ff_text.specs.declared.mark.Mark.TheVariants.{Open, Close, Comma, Less, AtMost, Equal, Unequal, AtLeast, Greater, Semicolon}
 use Rattle.ff_text.specs.Classes.{is_blank, is_in_word, is_in_quotes, is_in_line}
@@ -13,34 +15,35 @@ use Rattle.ff_text.specs.Cutting.{is_next, Lexeme, gap, piece, word, with_equal,
 pub record IsInside (n : ℕ) (l : Lexeme) : Type 0 where
   pub other : l.token ≢ Some Stop
   pub within : l.more ≤ n
+  pub plain : MatchOption l.token (Unit {0}) HasPlainText
 
 IsInside-gap : (n more : ℕ) → more ≤ n → IsInside n (gap more)
-IsInside-gap n more h = record { other = λ e. cc; within = h }
+IsInside-gap n more h = record { other = λ e. cc; within = h; plain = tt }
 
-IsInside-piece : (n : ℕ) (t : Token) (more : ℕ) → t ≢ Stop → more ≤ n → IsInside n (piece t more)
-IsInside-piece n t more other h = record { other = λ e. other (cc); within = h }
+IsInside-piece : (n : ℕ) (t : Token) (more : ℕ) → t ≢ Stop → HasPlainText t → more ≤ n → IsInside n (piece t more)
+IsInside-piece n t more other plain h = record { other = λ e. other (cc); within = h; plain = plain }
 
 IsInside-if : (n : ℕ) (test : Bool) (l m : Lexeme) → (test ≡ true → IsInside n l) → IsInside n m → IsInside n (cond test l m)
 IsInside-if n true l m h k = h refl
 IsInside-if n false l m h k = k
 
-IsInside-one : (n : ℕ) (t : Token) → t ≢ Stop → IsInside n (piece t 0)
-IsInside-one n t other = IsInside-piece n t 0 other (omega arith)
+IsInside-one : (n : ℕ) (t : Token) → t ≢ Stop → HasPlainText t → IsInside n (piece t 0)
+IsInside-one n t other plain = IsInside-piece n t 0 other plain (omega arith)
 
 IsInside-bad : (n : ℕ) → IsInside n (piece Bad 0)
-IsInside-bad n = IsInside-one n Bad (λ e. cc)
+IsInside-bad n = IsInside-one n Bad (λ e. cc) tt
 
 IsInside-mark : (n : ℕ) (m : Mark) → IsInside n (piece (Sign m) 0)
-IsInside-mark n m = IsInside-one n (Sign m) (λ e. cc)
+IsInside-mark n m = IsInside-one n (Sign m) (λ e. cc) tt
 
 -- where a byte comes next there is one
 is_next-some : (b : ℕ) (bs : List ℕ) → is_next b bs ≡ true → 0 < length bs
 is_next-some b [] e = absurd (cc)
 is_next-some b (c ∷ cs) e = omega arith
 
-IsInside-with_equal : (alone both : Token) (bs : List ℕ) → alone ≢ Stop → both ≢ Stop → IsInside (length bs) (with_equal alone both bs)
-IsInside-with_equal alone both bs h k =
-    IsInside-if (length bs) (is_next 61 bs) _ _ (λ e. IsInside-piece (length bs) both 1 k (omega (arith, is_next-some 61 bs e))) (IsInside-one (length bs) alone h)
+IsInside-with_equal : (alone both : Token) (bs : List ℕ) → alone ≢ Stop → HasPlainText alone → both ≢ Stop → HasPlainText both → IsInside (length bs) (with_equal alone both bs)
+IsInside-with_equal alone both bs h p k q =
+    IsInside-if (length bs) (is_next 61 bs) _ _ (λ e. IsInside-piece (length bs) both 1 k q (omega (arith, is_next-some 61 bs e))) (IsInside-one (length bs) alone h p)
 
 IsInside-sign : (b : ℕ) (bs : List ℕ) → IsInside (length bs) (sign b bs)
 IsInside-sign b bs =
@@ -50,24 +53,37 @@ IsInside-sign b bs =
     IsInside-if n (b == 44) _ _ (λ _. IsInside-mark n Comma) (
     IsInside-if n (b == 59) _ _ (λ _. IsInside-mark n Semicolon) (
     IsInside-if n (b == 61) _ _ (λ _. IsInside-mark n Equal) (
-    IsInside-if n (b == 60) _ _ (λ _. IsInside-with_equal (Sign Less) (Sign AtMost) bs (λ e. cc) (λ e. cc)) (
-    IsInside-if n (b == 62) _ _ (λ _. IsInside-with_equal (Sign Greater) (Sign AtLeast) bs (λ e. cc) (λ e. cc)) (
-    IsInside-if n (b == 33) _ _ (λ _. IsInside-with_equal Bad (Sign Unequal) bs (λ e. cc) (λ e. cc)) (IsInside-bad n))))))))
+    IsInside-if n (b == 60) _ _ (λ _. IsInside-with_equal (Sign Less) (Sign AtMost) bs (λ e. cc) tt (λ e. cc) tt) (
+    IsInside-if n (b == 62) _ _ (λ _. IsInside-with_equal (Sign Greater) (Sign AtLeast) bs (λ e. cc) tt (λ e. cc) tt) (
+    IsInside-if n (b == 33) _ _ (λ _. IsInside-with_equal Bad (Sign Unequal) bs (λ e. cc) tt (λ e. cc) tt) (IsInside-bad n))))))))
 
 IsInside-word : (b : ℕ) (bs : List ℕ) → IsInside (length bs) (word b bs)
-IsInside-word b bs = IsInside-piece (length bs) _ _ (λ e. cc) (prefix_len-le-length is_in_word bs)
+IsInside-word b bs = IsInside-piece (length bs) _ _ (λ e. cc) tt (prefix_len-le-length is_in_word bs)
 
 IsInside-digits : (b : ℕ) (bs : List ℕ) → IsInside (length bs) (digits b bs)
-IsInside-digits b bs = IsInside-piece (length bs) _ _ (λ e. cc) (prefix_len-le-length is_ascii_digit bs)
+IsInside-digits b bs = IsInside-piece (length bs) _ _ (λ e. cc) tt (prefix_len-le-length is_ascii_digit bs)
 
 IsInside-minus : (bs : List ℕ) → IsInside (length bs) (minus bs)
 IsInside-minus bs =
     IsInside-if (length bs) (prefix_len is_ascii_digit bs == 0) _ _ (λ _. IsInside-bad (length bs)) (IsInside-digits 45 bs)
 
+-- what goes up to a quote, a tab or a newline may be a field
+plain-byte : (b : ℕ) → is_in_quotes b ≡ true → IsPlainByte b
+plain-byte b h =
+    (λ e. let k : false ≡ true = subst (λ c. is_in_quotes c ≡ true) e h in cc, λ e. let k : false ≡ true = subst (λ c. is_in_quotes c ≡ true) e h in cc)
+
+plain-step : (b : ℕ) (bs : List ℕ) (n : ℕ) (test : Bool) → is_in_quotes b ≡ test → IsPlain (take n bs) → IsPlain (take (cond test (1 + n) 0) (b ∷ bs))
+plain-step b bs n false e h = tt
+plain-step b bs n true e h = rw one-add (plain-byte b e, h)
+
+plain-run : (bs : List ℕ) → IsPlain (take (prefix_len is_in_quotes bs) bs)
+plain-run [] = tt
+plain-run (b ∷ bs) = plain-step b bs (prefix_len is_in_quotes bs) (is_in_quotes b) refl (plain-run bs)
+
 IsInside-quoted : (bs : List ℕ) → IsInside (length bs) (quoted bs)
 IsInside-quoted bs =
     let len = prefix_len is_in_quotes bs in
-    IsInside-if (length bs) (is_next 34 (drop len bs)) _ _ (λ e. IsInside-piece (length bs) _ (suc len) (λ e. cc) (omega (arith, is_next-some 34 (drop len bs) e, length-drop len bs))) (IsInside-bad (length bs))
+    IsInside-if (length bs) (is_next 34 (drop len bs)) _ _ (λ e. IsInside-piece (length bs) _ (suc len) (λ e. cc) (plain-run bs) (omega (arith, is_next-some 34 (drop len bs) e, length-drop len bs))) (IsInside-bad (length bs))
 
 pub IsInside-lexeme : (b : ℕ) (bs : List ℕ) → IsInside (length bs) (lexeme b bs)
 IsInside-lexeme b bs =

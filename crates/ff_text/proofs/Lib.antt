@@ -4,3 +4,7 @@ pub mod Stops
 pub mod Runs
 pub mod Lexemes
 pub mod Apart
+pub mod Pipes
+pub mod OpParts
+pub mod Spelled
+pub mod LeavesLaw

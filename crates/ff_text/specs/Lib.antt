@@ -4,3 +4,4 @@ pub mod Cutting
 pub mod Seen
 pub mod Printing
 pub mod CutLaws
+pub mod Leaves

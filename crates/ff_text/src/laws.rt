@@ -1,5 +1,6 @@
 // What holds of the words of this crate's contracts, whatever the call.
 ghost use Rattle.ff_text.specs.CutLaws.{CutsFrontFirst, StopsAtItsEnd};
+ghost use Rattle.ff_text.specs.Leaves.{LeavesAreSpelled};
 ghost use Rattle.ff_text.specs.Printing.{PrintedIsCut};
 
 use ff_rec::printed_numbers_are_read;
@@ -20,3 +21,8 @@ pub fn printed_pieces_are_cut_into_them()
 {
     printed_numbers_are_read();
 }
+
+/// The operations of a text are those that it spells, alone or as a pipe.
+pub fn leaves_are_what_a_text_spells()
+    ensures { LeavesAreSpelled }
+{}

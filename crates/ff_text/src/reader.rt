@@ -2,7 +2,7 @@
 ghost use Rattle.std.specs.Prelude.{◌≡◌, ◌≤◌, ◌∷◌, length, drop};
 ghost use Rattle.ff_text.specs.Cutting.{ahead, tokens};
 ghost use Rattle.ff_text.specs.Seen.{spot_of, token_of, behind};
-ghost use Rattle.ff_text.specs.Tokens.{Stop};
+ghost use Rattle.ff_text.specs.Tokens.{Stop, HasPlainText};
 
 #[cfg(test)]
 mod tests;
@@ -40,7 +40,8 @@ impl<'a> Reader<'a> {
 
     /// The first token ahead. It stays ahead.
     pub fn peek(&self) -> Spot<'a>
-        ensures { self.now ≡ spot_of result ∷ drop 1 self.now }
+        ensures first { self.now ≡ spot_of result ∷ drop 1 self.now }
+        ensures plain { HasPlainText (token_of result.token) }
     {
         next_spot(self.text, self.at).0
     }
@@ -49,6 +50,7 @@ impl<'a> Reader<'a> {
     pub fn next(&mut self) -> Spot<'a>
         ensures first { self.old ≡ spot_of result ∷ behind (token_of result.token) self.new }
         ensures stays { token_of result.token ≡ Stop → self.new ≡ self.old }
+        ensures plain { HasPlainText (token_of result.token) }
     {
         let (spot, at) = next_spot(self.text, self.at);
         self.at = at;
@@ -62,6 +64,7 @@ fn next_spot(text: &[u8], mut at: usize) -> (Spot<'_>, usize)
     ensures first { ahead text.now at ≡ spot_of result.0 ∷ behind (token_of result.0.token) (ahead text.now result.1) }
     ensures stays { token_of result.0.token ≡ Stop → ahead text.now result.1 ≡ ahead text.now at }
     ensures within { result.1 ≤ length text.now }
+    ensures plain { HasPlainText (token_of result.0.token) }
 {
     while at < text.len() {
         let lexeme = first_lexeme(&text[at..]);

@@ -1,1 +1,4 @@
 pub mod Saying
+pub mod Lines
+pub mod Limited
+pub mod Calls

@@ -66,7 +66,12 @@ impl Fault {
         match self {
             Fault::Usage => write_all(sink, b"ffrun: usage: run, check, plan, mdf, dc or soak\n"),
             Fault::File(name) => {
-                write_three(sink, b"ffrun: cannot read ", name.as_str().as_bytes(), b"\n")
+                write_three(
+                    sink,
+                    b"ffrun: cannot read ",
+                    name.as_str().as_bytes(),
+                    b"\n",
+                )
             }
             Fault::LongText => write_all(sink, b"ffrun: text too long\n"),
             Fault::NotBuilt => write_all(sink, b"ffrun: not built\n"),

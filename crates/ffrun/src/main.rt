@@ -1,7 +1,7 @@
 //! The program: it makes the devices of a process and calls `ffrun`.
 #![tactic(auto)]
 
-use ff_io::{StderrSink, StdinSource, StdoutSink};
+use ff_io::{HostFiles, StderrSink, StdinSource, StdoutSink};
 use ff_top::{ffrun, refuse_memory};
 use std::alloc::Global;
 use std::io::ErrorKind;
@@ -20,9 +20,11 @@ fn main(rt: HostRuntime) -> ExitCode {
         // An argument that isn't UTF-8 is part of no command, as no words are.
         Err(_) => Vec::new(alloc),
     };
+    let mut files = HostFiles::new(alloc, &rt);
     let mut input = StdinSource::new(rt.stdin());
     let mut out = StdoutSink::new(rt.stdout());
-    ExitCode::from(ffrun(alloc, &words, &mut input, &mut out, &mut err))
+    let status = ffrun(alloc, &words, &mut files, &mut input, &mut out, &mut err);
+    ExitCode::from(status)
 }
 
 // The arguments behind the program's name.

@@ -21,6 +21,13 @@ returns-in-Some-clause-stays c =
     let within = rw bytes at c.first_lexeme-lexeme.ensures.within in
     λ stop. absurd ((ahead-token c.args.text.now c.loop-at.at (seen c.first_lexeme-lexeme.result) (token_of c.in-Some.token) value within (ap (option_map token_of) c.in-Some.is)).0 stop)
 
+pub returns-in-Some-clause-plain : goal.returns-in-Some-clause-plain
+returns-in-Some-clause-plain c =
+    let bytes = take-behind c.loop-at.at c.args.text.now in
+    let value = rw bytes at c.first_lexeme-lexeme.ensures.value in
+    let within = rw bytes at c.first_lexeme-lexeme.ensures.within in
+    (ahead-token c.args.text.now c.loop-at.at (seen c.first_lexeme-lexeme.result) (token_of c.in-Some.token) value within (ap (option_map token_of) c.in-Some.is)).2
+
 pub loop-at-preserved : goal.loop-at-preserved
 loop-at-preserved c =
     let bytes = take-behind c.loop-at.at c.args.text.now in

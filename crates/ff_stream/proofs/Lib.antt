@@ -1,0 +1,5 @@
+mod Gathering
+mod Goings
+mod Readings
+mod Drainings
+mod Endings

@@ -1,0 +1,80 @@
+-- What a comb of operations does is what they do one behind another.
+use Rattle.std.proofs.Common.{◌≡◌, ℕ, false, List, [], ◌∷◌, map, length, min, ◌^◌, ◌-◌, refl, sym, ap, subst, ◌∙◌}
+use Rattle.std.specs.Io.KnownBytes.{Consumes, Appends}
+use Rattle.ff_io.specs.Bytes.{AppendsPrefix}
+use Rattle.ff_node.specs.Behaviour.{node, rejected, line, line_refused}
+use Rattle.ff_node.specs.Comb.{Part, CombIsLine, comb_node, nodes_of, running}
+use Rattle.ff_node.specs.Sends.{counted}
+use Rattle.ff_ops.specs.Operation.{OpState, op_node}
+use Rattle.ff_rec.proofs.WeightLaws.{Same-length}
+use Rattle.ff_rec.specs.Lines.{Rec, text}
+use Rattle.ff_stream.specs.Endings.{IsTold, EndsWith, HasRun as HasStreamed, CountsInput as CountsStreamed, output_count as stream_output_count}
+use Rattle.ff_stream.specs.declared.report.Report.{Report}
+use Rattle.ff_stream.specs.declared.report.StreamFault.{StreamFault}
+use Rattle.ff_stream.specs.declared.report.StreamFault.TheVariants.{Write, Read, Line, NoMemory}
+use Rattle.std.specs.Prelude.{Result, Ok, Err}
+use Rattle.ff_top.specs.Endings.{Scene, HasRun, HasBegun, Ran, ending_of, CountsInput, output_count, records_of}
+
+nodes_of-running : (os : List OpState) → nodes_of (running os) ≡ os
+nodes_of-running [] = refl
+nodes_of-running (o ∷ os) = ap (λ (ns : List OpState). o ∷ ns) (nodes_of-running os)
+
+nodes_of-comb : (os : List OpState) (comb : List (Part OpState)) → comb ≡ running os → nodes_of comb ≡ os
+nodes_of-comb os comb is = ap (λ (ps : List (Part OpState)). nodes_of ps) is ∙ nodes_of-running os
+
+node-comb : CombIsLine op_node → (os : List OpState) (comb : List (Part OpState)) → comb ≡ running os → (xs : List Rec)
+    → node (comb_node op_node) comb xs ≡ line op_node os xs
+node-comb law os comb is xs = (law comb xs).0 ∙ ap (λ (ns : List OpState). line op_node ns xs) (nodes_of-comb os comb is)
+
+rejected-comb : CombIsLine op_node → (os : List OpState) (comb : List (Part OpState)) → comb ≡ running os → (xs : List Rec)
+    → rejected (comb_node op_node) comb xs ≡ length (line_refused op_node os xs)
+rejected-comb law os comb is xs = Same-length ((law comb xs).1) ∙ ap (λ (ns : List OpState). length (line_refused op_node ns xs)) (nodes_of-comb os comb is)
+
+-- a whole run
+HasRun-told : CombIsLine op_node → (s : Scene) (os : List OpState) (comb : List (Part OpState)) → comb ≡ running os → (report : Report) (Cause : List ℕ → Type 0) (got : List ℕ)
+    → Consumes s.left s.left_now got → IsTold (comb_node op_node) comb false (records_of got s.ended) s.taken s.taken_now report → Cause got
+    → HasRun s os report.rejected Cause
+HasRun-told law s os comb is report Cause got reads is_told cause = record {
+  got = got;
+  reads = reads;
+  writes = subst (λ ys. Appends s.taken s.taken_now (text ys)) (node-comb law os comb is (records_of got s.ended)) is_told.output;
+  rejected = is_told.rejected ∙ ap counted (rejected-comb law os comb is (records_of got s.ended));
+  cause = cause;
+}
+
+-- one that was cut short
+HasBegun-prefix : CombIsLine op_node → (s : Scene) (os : List OpState) (comb : List (Part OpState)) → comb ≡ running os → (got : List ℕ)
+    → Consumes s.left s.left_now got → AppendsPrefix s.taken s.taken_now (text (node (comb_node op_node) comb (records_of got s.ended)))
+    → HasBegun s os
+HasBegun-prefix law s os comb is got reads writes = record {
+  got = got;
+  reads = reads;
+  writes = subst (λ ys. AppendsPrefix s.taken s.taken_now (text ys)) (node-comb law os comb is (records_of got s.ended)) writes;
+}
+
+-- a run over a stream ends as the call says
+pub Ran-ending_of : CombIsLine op_node → (s : Scene) (os : List OpState) (comb : List (Part OpState)) → comb ≡ running os → (answer : Result Report StreamFault)
+    → EndsWith answer s.left_now s.ended
+    → HasStreamed (comb_node op_node) comb 65536 false s.left s.left_now s.ended s.taken s.taken_now answer
+    → Ran s os (ending_of answer)
+Ran-ending_of law s os comb is (Ok report) end run =
+    HasRun-told law s os comb is report _ run.got run.reads run.tells.1 (run.tells.0, end.1, end.0)
+Ran-ending_of law s os comb is (Err Write) end run = HasBegun-prefix law s os comb is run.got run.reads run.tells
+Ran-ending_of law s os comb is (Err (Read report)) end run = HasRun-told law s os comb is report _ run.got run.reads run.tells.1 run.tells.0
+Ran-ending_of law s os comb is (Err (Line fault report)) end run = HasRun-told law s os comb is report _ run.got run.reads run.tells.1 run.tells.0
+Ran-ending_of law s os comb is (Err NoMemory) end run = HasBegun-prefix law s os comb is run.got run.reads run.tells
+
+-- and so do the counts of faults
+pub CountsInput-ending_of : (before now : ℕ) (answer : Result Report StreamFault) → CountsStreamed before now answer → CountsInput before now (ending_of answer)
+CountsInput-ending_of before now (Ok report) counts = counts
+CountsInput-ending_of before now (Err Write) counts = counts
+CountsInput-ending_of before now (Err (Read report)) counts = counts
+CountsInput-ending_of before now (Err (Line fault report)) counts = counts
+CountsInput-ending_of before now (Err NoMemory) counts = counts
+
+pub output_count-ending_of : (n : ℕ) (answer : Result Report StreamFault) → output_count n (ending_of answer) ≡ stream_output_count n answer
+output_count-ending_of n (Ok report) = refl
+output_count-ending_of n (Err Write) = refl
+output_count-ending_of n (Err (Read report)) = refl
+output_count-ending_of n (Err (Line fault report)) = refl
+output_count-ending_of n (Err NoMemory) = refl
