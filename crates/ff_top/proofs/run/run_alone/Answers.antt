@@ -1,15 +1,18 @@
--- The operations ran as the comb of them.
-use Rattle.std.proofs.Common.{ℕ, Result, sym, subst, ap, ◌∙◌}
+-- One operation is a line of one.
+use Rattle.std.proofs.Common.{ℕ, Result, [], ◌∷◌, sym, subst, ap, ◌∙◌}
+use Rattle.ff_node.specs.Comb.{comb_node}
+use Rattle.ff_ops.specs.Operation.{op_node}
 use Rattle.ff_top.specs.Endings.{Ran, scene, CountsInput, output_count}
 use Rattle.ff_top.specs.declared.fault.Fault.{Fault}
-use Rattle.ff_top.proofs.Lines.{Ran-ending_of, CountsInput-ending_of, output_count-ending_of}
-use Rattle.ff_top.proofs.run.run.Goals as goal
+use Rattle.ff_top.proofs.Lines.{IsLine-alone, Ran-ending_of, CountsInput-ending_of, output_count-ending_of}
+use Rattle.ff_top.proofs.run.run_alone.Goals as goal
 
 pub returns-clause-ran : goal.returns-clause-ran
 returns-clause-ran g c =
-    let s = (scene (g.I.Source.left c.args.input.now) (g.I.Source.left c.run_stream.new.source) (g.I.Source.ended c.run_stream.new.source) (g.O.Sink.taken c.args.out.now) (g.O.Sink.taken c.run_stream.new.sink)) in
-    subst (λ (answer : Result ℕ Fault). Ran s c.args.nodes.items answer) (sym c.ending.ensures)
-    (Ran-ending_of c.comb_is_composition.ensures.line s c.args.nodes.items c.new.result c.new.ensures c.run_stream.result c.run_stream.ensures.end c.run_stream.ensures.run)
+    let s = scene (g.I.Source.left c.args.input.now) (g.I.Source.left c.run_stream.new.source) (g.I.Source.ended c.run_stream.new.source) (g.O.Sink.taken c.args.out.now) (g.O.Sink.taken c.run_stream.new.sink) in
+    subst (λ (answer : Result ℕ Fault). Ran s (c.args.node ∷ []) answer) (sym c.ending.ensures)
+    (Ran-ending_of op_node c.args.node (c.args.node ∷ []) (IsLine-alone c.args.node) s
+    c.run_stream.result c.run_stream.ensures.end c.run_stream.ensures.run)
 
 pub returns-clause-input_faults : goal.returns-clause-input_faults
 returns-clause-input_faults g c =
