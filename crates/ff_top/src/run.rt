@@ -27,7 +27,7 @@ pub fn run<I: Source, O: Sink>(
     ensures output_faults { O.faults out.new ≡ output_count (O.faults out.old) result }
 {
     match nodes.len() {
-        // Without a comb round it, an operation takes a third less time.
+        // A comb round one operation would take two blocks more for each record.
         1 => match nodes.pop() {
             Some(node) => run_alone(alloc, node, input, out),
             None => unreachable!(),
