@@ -1,5 +1,5 @@
-// The records of a piece.
-ghost use Rattle.std.specs.Prelude.{◌≡◌, ◌≤◌, ◌+◌, ◌++◌, None, length, IfOk, OnOk};
+// The records of some bytes.
+ghost use Rattle.std.specs.Prelude.{◌≡◌, ◌≤◌, ◌+◌, [], None, length, IfOk, OnOk};
 ghost use Rattle.std.specs.Option.{option_map};
 ghost use Rattle.ff_rec.specs.declared.fault.FeedFault.TheVariants.{Line as Passed};
 ghost use Rattle.ff_rec.specs.Reading.{after, given};
@@ -9,37 +9,33 @@ use crate::fault::Stop;
 use ff_rec::{FeedFault, LineFault, LineReader, NoMemory, Record};
 use std::alloc::Global;
 use std::collections::VecDeque;
+use std::mem;
 
-/// The records of the lines that a piece ends, and the limit that it passes behind them, if it does.
-#[derive(Drop)]
-pub(crate) struct Batch {
-    pub records: VecDeque<Record>,
-    pub fault: Option<LineFault>,
-}
-
-/// Reads a piece.
+/// Puts the records of the lines that some bytes end into a queue that holds none. The answer is the limit that they pass
+/// behind these records, if they do.
 pub(crate) fn read_batch(
-    alloc: Global,
+    queue: &mut VecDeque<Record>,
     reader: &mut LineReader,
-    piece: &[u8],
-) -> Result<Batch, NoMemory>
-    requires { reader.old.fault ≡ None }
-    ensures records { IfOk result (λ batch. batch.records.items ≡ given reader.old piece.now) }
-    ensures state { OnOk result (reader.new ≡ after reader.old piece.now) }
-    ensures fault { IfOk result (λ batch. reader.new.fault ≡ option_map Passed batch.fault) }
-    ensures taken { IfOk result (λ batch. batch.fault ≡ None → (reader.new.taken ≡ reader.old.taken + length piece.now) × (reader.new.taken ≤ reader.old.input_limit)) }
+    bytes: &[u8],
+) -> Result<Option<LineFault>, NoMemory>
+    requires empty { queue.old.items ≡ [] }
+    requires going { reader.old.fault ≡ None }
+    ensures records { OnOk result (queue.new.items ≡ given reader.old bytes.now) }
+    ensures state { OnOk result (reader.new ≡ after reader.old bytes.now) }
+    ensures fault { IfOk result (λ fault. reader.new.fault ≡ option_map Passed fault) }
+    ensures taken { IfOk result (λ fault. fault ≡ None → (reader.new.taken ≡ reader.old.taken + length bytes.now) × (reader.new.taken ≤ reader.old.input_limit)) }
     ensures limit { reader.new.input_limit ≡ reader.old.input_limit }
 {
-    let mut records = Vec::new(alloc);
-    let fault = match reader.feed(piece, &mut records) {
+    // The reader wants a `Vec`; the room of the queue goes over into it and back.
+    let none = VecDeque::new(*queue.allocator());
+    let mut records = Vec::from(mem::replace(queue, none));
+    let fault = match reader.feed(bytes, &mut records) {
         Ok(()) => None,
         Err(FeedFault::Line(fault)) => Some(fault),
         Err(FeedFault::NoMemory) => return Err(NoMemory),
     };
-    Ok(Batch {
-        records: VecDeque::from(records),
-        fault,
-    })
+    *queue = VecDeque::from(records);
+    Ok(fault)
 }
 
 /// The record of a last line without a newline. Where the reading stopped before the end, that line isn't used.

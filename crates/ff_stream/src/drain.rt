@@ -1,5 +1,5 @@
 // From the first byte to the report.
-ghost use Rattle.std.specs.Prelude.{◌≡◌, ◌<◌, [], None, length, IfOk, OnOk};
+ghost use Rattle.std.specs.Prelude.{◌≡◌, ◌<◌, [], None, length, IfOk};
 ghost use Rattle.std.specs.Io.KnownBytes.{Appends};
 ghost use Rattle.ff_io.specs.Bytes.{AppendsPrefix};
 ghost use Rattle.ff_stream.specs.Endings.{EndsWith, CountsInput, output_count};
@@ -56,8 +56,8 @@ fn finish<N: Node, O: Sink>(
     ensures prefix { AppendsPrefix (O.taken sink.old) (O.taken sink.new) (due N.does running.old (last_of stop reader.line)) }
     ensures counts { O.faults sink.new ≡ sink_count (O.faults sink.old) result }
 {
-    let records = last_batch(alloc, reader, stop)?;
-    hand_all(running, records, sink)?;
+    let mut records = last_batch(alloc, reader, stop)?;
+    hand_all(running, &mut records, sink)?;
     close(alloc, running, sink)
 }
 

@@ -1,6 +1,5 @@
 // A node that runs.
-ghost use Rattle.std.specs.Prelude.{◌≡◌, ◌++◌, [], ◌∷◌, false, List, IfOk, OnOk};
-ghost use Rattle.std.specs.Io.KnownBytes.{Appends};
+ghost use Rattle.std.specs.Prelude.{◌≡◌, [], ◌∷◌, false, List, IfOk, OnOk};
 ghost use Rattle.ff_rec.specs.Lines.{Rec};
 ghost use Rattle.ff_node.specs.Sends.{nothing_sent};
 ghost use Rattle.ff_stream.specs.Reads.{sink_count};
@@ -56,14 +55,14 @@ fn no_sends(alloc: Global, keep: bool) -> Sends
 /// Hands these records to the node, one after another, and writes its text whenever that fills up.
 pub(crate) fn hand_all<N: Node, O: Sink>(
     running: &mut Running<N>,
-    queue: VecDeque<Record>,
+    queue: &mut VecDeque<Record>,
     sink: &mut O,
 ) -> Result<(), Halt>
-    ensures ok { OnOk result (Goes N.does running.old queue.items running.new [] (O.taken sink.old) (O.taken sink.new)) }
-    ensures front { Breaks N.does running.old queue.items (O.taken sink.old) (O.taken sink.new) }
+    ensures ok { OnOk result (Goes N.does running.old queue.old.items running.new [] (O.taken sink.old) (O.taken sink.new)) }
+    ensures used { OnOk result (queue.new.items ≡ []) }
+    ensures front { Breaks N.does running.old queue.old.items (O.taken sink.old) (O.taken sink.new) }
     ensures counts { O.faults sink.new ≡ sink_count (O.faults sink.old) result }
 {
-    let mut queue = queue;
     while let Some(r) = queue.pop_front() {
         hand(running, r)?;
         if running.text.len() >= FULL {

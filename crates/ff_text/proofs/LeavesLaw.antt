@@ -123,7 +123,7 @@ name-other o true fits is =
     let unknown : read_op (codes "pipe") o.args ≡ Ok o = subst (λ n. read_op n o.args ≡ Ok o) named fits in
     absurd (cc)
 
-leaves_of-single : (o : OpState) → IsNew o → leaves_of (spelling o ++ Stop ∷ []) ≡ Some (o ∷ [])
+pub leaves_of-single : (o : OpState) → IsNew o → leaves_of (spelling o ++ Stop ∷ []) ≡ Some (o ∷ [])
 leaves_of-single o fits =
     ap (λ test. cond test (pipe (map argument_token o.args ++ Stop ∷ [])) (operation_then ending (spelling o ++ Stop ∷ []))) (name-other o (same_bytes (name_of o.row) (codes "pipe")) fits refl)
     ∙ operation_then-spelling ending o Stop [] [] fits refl refl

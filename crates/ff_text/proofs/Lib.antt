@@ -8,3 +8,4 @@ pub mod Pipes
 pub mod OpParts
 pub mod Spelled
 pub mod LeavesLaw
+pub mod PrintedOperations

@@ -5,3 +5,4 @@ pub mod Seen
 pub mod Printing
 pub mod CutLaws
 pub mod Leaves
+pub mod PrintedOperations

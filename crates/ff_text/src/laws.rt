@@ -1,7 +1,11 @@
 // What holds of the words of this crate's contracts, whatever the call.
 ghost use Rattle.ff_text.specs.CutLaws.{CutsFrontFirst, StopsAtItsEnd};
 ghost use Rattle.ff_text.specs.Leaves.{LeavesAreSpelled};
+ghost use Rattle.ff_text.specs.PrintedOperations.{PrintedOpIsRead, PrintedOpIsSpelling};
 ghost use Rattle.ff_text.specs.Printing.{PrintedIsCut};
+
+#[cfg(test)]
+mod tests;
 
 use ff_rec::printed_numbers_are_read;
 
@@ -26,3 +30,11 @@ pub fn printed_pieces_are_cut_into_them()
 pub fn leaves_are_what_a_text_spells()
     ensures { LeavesAreSpelled }
 {}
+
+/// What is printed of an operation is read as that one operation, where no text among its arguments holds a quote.
+pub fn printed_operations_are_read()
+    ensures tokens { PrintedOpIsSpelling }
+    ensures read { PrintedOpIsRead }
+{
+    printed_pieces_are_cut_into_them();
+}

@@ -10,8 +10,8 @@ mod reader;
 mod token;
 
 pub use laws::{
-    leaves_are_what_a_text_spells, printed_pieces_are_cut_into_them, texts_are_cut_from_the_front,
-    texts_stop_at_their_end,
+    leaves_are_what_a_text_spells, printed_operations_are_read, printed_pieces_are_cut_into_them,
+    texts_are_cut_from_the_front, texts_stop_at_their_end,
 };
 pub use leaves::{LeavesFault, read_leaves};
 pub use mark::Mark;

@@ -6,8 +6,9 @@ use Rattle.ff_io.specs.Faults.{more, Rose}
 use Rattle.ff_io.specs.Files.{Holdings}
 use Rattle.ff_node.specs.Behaviour.{line, line_refused}
 use Rattle.ff_node.specs.Sends.{counted}
+use Rattle.ff_net.specs.Versions.{limit_by, seen_by}
+use Rattle.ff_net.specs.declared.net.Version.TheVariants.{One}
 use Rattle.ff_ops.specs.Operation.{OpState, op_node}
-use Rattle.ff_rec.specs.Limits.{limit, seen}
 use Rattle.ff_rec.specs.Lines.{Rec, text}
 use Rattle.ff_rec.specs.declared.fault.LineFault.{LineFault}
 use Rattle.ff_stream.specs.declared.report.Report.{Report}
@@ -31,20 +32,13 @@ pub record IsNotBuilt (words : List (List ℕ)) : Type 0 where
   pub is_command : IsSome (command words)
   pub not_built : running words ≡ None
 
--- the most bytes of a line, its newline not counted, and of an input
-abbrev pub line_limit : ℕ
-line_limit = 65536
-
-abbrev pub input_limit : ℕ
-input_limit = 2 ^ 40
-
--- the first limit that an input passes
+-- the first limit that an input passes; each text of today is of the first version
 abbrev pub limit_of : List ℕ → Option LineFault
-limit_of bytes = limit line_limit input_limit bytes
+limit_of bytes = limit_by One bytes
 
 -- the records that are read of an input, up to that limit
 abbrev pub records_of : List ℕ → Bool → List Rec
-records_of bytes ended = seen line_limit input_limit bytes ended
+records_of bytes ended = seen_by One bytes ended
 
 -- what operations write for records, each fed with what the one before it sends
 abbrev pub output : List OpState → List Rec → List ℕ

@@ -2,7 +2,7 @@
 use super::{Op, OpFault, OpNode};
 use crate::runs::check_run;
 use crate::{Arg, ROWS, shape};
-use ff_node::{Cmp, Node};
+use ff_node::{Cmp, Comb, Node};
 use ff_rec::{Field, Kept, read_number};
 use std::alloc::Global;
 use std::process::Abort;
@@ -149,6 +149,30 @@ fn a_node_does_what_its_operation_says(rt: HostRuntime) -> Result<(), Fail> {
         assert_eq!(rt; node.op().args().len() + 1, text.split(' ').count());
     }
     Ok(())
+}
+
+#[test]
+fn a_comb_gives_what_its_parts_give_in_turn(rt: HostRuntime) -> Result<(), Fail> {
+    let alloc = rt.alloc();
+    let mut parts = Vec::new(alloc);
+    for (text, lines, sends, rejects) in [
+        (
+            "add 1 1",
+            ["1", "2", "z", "4"].as_slice(),
+            "2\n3\n5\n",
+            "z\n",
+        ),
+        // It ends by itself, and drops the third record.
+        ("take 2", ["2", "3", "5"].as_slice(), "2\n3\n", ""),
+        ("total 1", ["2", "3"].as_slice(), "5\n", ""),
+    ] {
+        let mut node = OpNode::new(read(alloc, text)??);
+        check_run(&rt, alloc, &mut node, lines, sends, rejects)?;
+        parts.push(node)?;
+    }
+    assert_eq!(rt; parts.len(), 3);
+    let mut comb = Comb::new(parts);
+    check_run(&rt, alloc, &mut comb, &["1", "2", "z", "4"], "5\n", "z\n")
 }
 
 #[test]

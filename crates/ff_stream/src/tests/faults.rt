@@ -71,13 +71,18 @@ fn sink_of_every_budget(rt: HostRuntime) -> Result<(), Fail> {
 
 #[test]
 fn line_past_a_limit(rt: HostRuntime) -> Result<(), Fail> {
-    let tabs = [b'\t'; 65];
+    let tabs = [b'\t'; 64];
     for most in [1, 2, 5, 65_536] {
         let by = Devices {
             most,
             line: 70,
             ..SOUND
         };
+        let few = Want {
+            rejected: 1,
+            ..done(b"")
+        };
+        check(&rt, rt.alloc(), Gate::open(), &tabs[..63], by, few)?;
         let many = Want {
             kind: Kind::Line(LineFault::TooManyFields(1)),
             ..done(b"")

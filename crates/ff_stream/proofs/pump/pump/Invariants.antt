@@ -1,4 +1,4 @@
-use Rattle.std.proofs.Common.{◌≡◌, ◌-◌, None}
+use Rattle.std.proofs.Common.{◌≡◌, ◌-◌, None, []}
 use Rattle.ff_stream.specs.Reads.{Reads}
 use Rattle.ff_stream.proofs.pump.pump.Given as goal
 
@@ -8,6 +8,7 @@ invariant-pieces g l = record {
   reads : Reads g.N.Node.does l.initial.running l.initial.reader l.running l.reader (g.I.Source.left l.initial.source) (g.I.Source.left l.source)
       (g.O.Sink.taken l.initial.sink) (g.O.Sink.taken l.sink);
   going : l.reader.fault ≡ None;
+  used : l.queue.items ≡ [];
   quiet : g.I.Source.faults l.source ≡ g.I.Source.faults l.initial.source;
   silent : g.O.Sink.faults l.sink ≡ g.O.Sink.faults l.initial.sink;
 }

@@ -1,0 +1,15 @@
+pub mod Tree
+pub mod Forms
+pub mod Counts
+pub mod Levels
+pub mod Meaning
+pub mod Places
+pub mod RuleTests
+pub mod Rules
+pub mod Room
+pub mod Verdict
+pub mod Silent
+pub mod MeaningLaws
+pub mod Good
+pub mod LevelLaws
+pub mod Versions

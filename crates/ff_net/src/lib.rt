@@ -1,0 +1,23 @@
+//! Networks of nodes: their forms, the rules that they have to keep, and what they mean on one thread.
+#![tactic(auto)]
+
+mod checked;
+mod counts;
+mod fault;
+mod faults;
+mod find;
+mod forms;
+pub mod laws;
+mod leaves;
+mod net;
+mod path;
+mod rule;
+mod spot;
+
+pub use checked::{Checked, check};
+pub use fault::RuleFault;
+pub use net::{Net, Route, Sched, Test, Version};
+pub use path::Path;
+
+#[cfg(test)]
+mod tests;

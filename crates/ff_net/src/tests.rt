@@ -1,0 +1,276 @@
+// Networks that break each rule, and networks at the limits.
+mod silent;
+
+use crate::{Checked, Net, Path, Route, RuleFault, Sched, Test, Version, check};
+use ff_node::{Class, Cmp};
+use silent::Silent;
+use std::alloc::{AllocError, Global};
+use std::test::Fail;
+
+type Made = Result<Net<Silent>, AllocError>;
+
+fn leaf(class: Class) -> Net<Silent> {
+    Net::Leaf(Silent { class })
+}
+
+fn id() -> Net<Silent> {
+    leaf(Class::Plain)
+}
+
+fn pipe(alloc: Global, first: Net<Silent>, second: Net<Silent>) -> Made {
+    Ok(Net::Pipe(vec![in alloc; first, second]?))
+}
+
+fn pipe_of_one(alloc: Global, part: Net<Silent>) -> Made {
+    Ok(Net::Pipe(vec![in alloc; part]?))
+}
+
+// A pipe of so many nodes.
+fn row(alloc: Global, parts: usize) -> Made {
+    let mut list = Vec::new(alloc);
+    for _ in 0..parts {
+        list.push(id())?;
+    }
+    Ok(Net::Pipe(list))
+}
+
+// A node in so many pipes.
+fn nested(alloc: Global, pipes: usize) -> Made {
+    let mut net = id();
+    for _ in 0..pipes {
+        net = pipe_of_one(alloc, net)?;
+    }
+    Ok(net)
+}
+
+fn comb(alloc: Global, first: Net<Silent>, second: Net<Silent>) -> Made {
+    Ok(Net::Comb(vec![in alloc; first, second]?))
+}
+
+fn farm(alloc: Global, workers: u32, worker: Net<Silent>) -> Made {
+    Ok(Net::Farm {
+        workers,
+        sched: Sched::Rr,
+        worker: Box::new(alloc, worker)?,
+    })
+}
+
+fn ofarm(alloc: Global, workers: u32, worker: Net<Silent>) -> Made {
+    Ok(Net::OFarm {
+        workers,
+        sched: Sched::Od,
+        worker: Box::new(alloc, worker)?,
+    })
+}
+
+fn a2a(
+    alloc: Global,
+    left: u32,
+    left_node: Net<Silent>,
+    route: Route,
+    right: u32,
+    right_node: Net<Silent>,
+) -> Made {
+    Ok(Net::A2a {
+        left,
+        left_node: Box::new(alloc, left_node)?,
+        route,
+        right,
+        right_node: Box::new(alloc, right_node)?,
+    })
+}
+
+fn wrap(alloc: Global, workers: u32, worker: Net<Silent>, field: u32) -> Made {
+    Ok(Net::Wrap {
+        workers,
+        worker: Box::new(alloc, worker)?,
+        test: Test {
+            field,
+            cmp: Cmp::Gt,
+            value: 1,
+        },
+    })
+}
+
+fn is_at(path: &Path, place: &[usize]) -> bool {
+    if path.len() != place.len() {
+        return false;
+    }
+    for k in 0..path.len() {
+        if k < place.len() && path.child(k) != place[k] {
+            return false;
+        }
+    }
+    true
+}
+
+// Whether the network is refused in this version, with this rule and place.
+fn names(net: Net<Silent>, version: Version, rule: u8, place: &[usize]) -> bool {
+    let Some(fault) = check(net, version).err() else {
+        return false;
+    };
+    fault.rule == rule && is_at(&fault.path, place)
+}
+
+fn refuses(net: Net<Silent>, rule: u8, place: &[usize]) -> bool {
+    names(net, Version::One, rule, place)
+}
+
+fn accepts(net: Net<Silent>, version: Version) -> bool {
+    check(net, version).is_ok()
+}
+
+#[test]
+fn each_rule_is_named_with_its_place(rt: HostRuntime) -> Result<(), Fail> {
+    let alloc = rt.alloc();
+    assert!(rt; refuses(nested(alloc, 16)?, 1, &[1; 16]));
+    assert!(rt; refuses(row(alloc, 65)?, 2, &[]));
+    assert!(rt; refuses(pipe(alloc, id(), row(alloc, 0)?)?, 2, &[2]));
+    assert!(rt; refuses(farm(alloc, 65, id())?, 3, &[]));
+    assert!(rt; refuses(a2a(alloc, 1, id(), Route::Rr, 0, id())?, 3, &[]));
+    assert!(rt; refuses(farm(alloc, 64, row(alloc, 2)?)?, 4, &[]));
+    assert!(rt;
+        names(
+            a2a(alloc, 40, id(), Route::Rr, 50, id())?,
+            Version::Two,
+            5,
+            &[]
+        )
+    );
+    Ok(())
+}
+
+#[test]
+fn each_rule_of_classes_is_named_with_its_place(rt: HostRuntime) -> Result<(), Fail> {
+    let alloc = rt.alloc();
+    assert!(rt; refuses(comb(alloc, id(), row(alloc, 1)?)?, 6, &[2]));
+    assert!(rt;
+        refuses(
+            farm(alloc, 2, pipe(alloc, id(), leaf(Class::Fold))?)?,
+            7,
+            &[1, 2]
+        )
+    );
+    assert!(rt; refuses(ofarm(alloc, 2, farm(alloc, 2, id())?)?, 8, &[1]));
+    assert!(rt; refuses(ofarm(alloc, 2, leaf(Class::Ordered))?, 8, &[1]));
+    assert!(rt;
+        refuses(
+            a2a(alloc, 2, leaf(Class::Keyed(1)), Route::By(1), 2, id())?,
+            9,
+            &[1]
+        )
+    );
+    assert!(rt;
+        refuses(
+            a2a(alloc, 2, id(), Route::By(1), 2, leaf(Class::Fold))?,
+            9,
+            &[2]
+        )
+    );
+    let behind = pipe(alloc, farm(alloc, 4, id())?, leaf(Class::Ordered))?;
+    assert!(rt; refuses(behind, 10, &[2]));
+    Ok(())
+}
+
+#[test]
+fn each_rule_of_keys_and_wraps_is_named_with_its_place(rt: HostRuntime) -> Result<(), Fail> {
+    let alloc = rt.alloc();
+    assert!(rt;
+        refuses(
+            a2a(alloc, 2, id(), Route::By(2), 2, leaf(Class::Keyed(1)))?,
+            11,
+            &[2]
+        )
+    );
+    assert!(rt;
+        refuses(
+            a2a(alloc, 2, id(), Route::Rr, 2, leaf(Class::Keyed(1)))?,
+            11,
+            &[2]
+        )
+    );
+    assert!(rt; refuses(wrap(alloc, 1, leaf(Class::Fold), 1)?, 12, &[1]));
+    let inside = farm(alloc, 2, wrap(alloc, 1, id(), 1)?)?;
+    assert!(rt; refuses(pipe(alloc, id(), inside)?, 13, &[2, 1]));
+    let deeper = pipe_of_one(alloc, pipe_of_one(alloc, wrap(alloc, 1, id(), 1)?)?)?;
+    assert!(rt; refuses(deeper, 13, &[1, 1]));
+    assert!(rt; refuses(wrap(alloc, 1, id(), 0)?, 14, &[]));
+    assert!(rt; refuses(a2a(alloc, 1, id(), Route::By(65), 1, id())?, 14, &[]));
+    Ok(())
+}
+
+#[test]
+fn the_lowest_rule_is_named_first(rt: HostRuntime) -> Result<(), Fail> {
+    let alloc = rt.alloc();
+    let counts = pipe(alloc, farm(alloc, 65, id())?, row(alloc, 0)?)?;
+    assert!(rt; refuses(counts, 2, &[2]));
+    let first = pipe(alloc, row(alloc, 0)?, row(alloc, 65)?)?;
+    assert!(rt; refuses(first, 2, &[1]));
+    let two = pipe(
+        alloc,
+        farm(alloc, 2, id())?,
+        ofarm(alloc, 2, leaf(Class::Ordered))?,
+    )?;
+    assert!(rt; refuses(two, 8, &[2, 1]));
+    Ok(())
+}
+
+#[test]
+fn networks_at_the_limits(rt: HostRuntime) -> Result<(), Fail> {
+    let alloc = rt.alloc();
+    assert!(rt; accepts(nested(alloc, 15)?, Version::One));
+    assert!(rt; accepts(row(alloc, 64)?, Version::One));
+    assert!(rt; accepts(farm(alloc, 64, id())?, Version::One));
+    assert!(rt; accepts(farm(alloc, 63, row(alloc, 2)?)?, Version::One));
+    assert!(rt; accepts(farm(alloc, 64, row(alloc, 2)?)?, Version::Two));
+    assert!(rt;
+        accepts(
+            a2a(alloc, 2, id(), Route::By(64), 2, leaf(Class::Keyed(64)))?,
+            Version::One
+        )
+    );
+    assert!(rt;
+        accepts(
+            pipe(alloc, wrap(alloc, 1, id(), 1)?, leaf(Class::Fold))?,
+            Version::One
+        )
+    );
+    let ordered = pipe(
+        alloc,
+        leaf(Class::Ordered),
+        ofarm(alloc, 2, row(alloc, 2)?)?,
+    )?;
+    assert!(rt; accepts(pipe(alloc, ordered, farm(alloc, 2, id())?)?, Version::One));
+    Ok(())
+}
+
+// The checked network, where it was accepted.
+fn checked(net: Net<Silent>) -> Option<Checked<Silent>> {
+    check(net, Version::Two).ok()
+}
+
+#[test]
+fn what_a_checked_network_tells(rt: HostRuntime) -> Result<(), Fail> {
+    let alloc = rt.alloc();
+    let line = checked(row(alloc, 2)?).ok_or("refused")?;
+    assert!(rt; line.is_ordered() && line.sweeps() && !line.has_wrap());
+    assert!(rt; matches!(line.net(), Net::Pipe(_)));
+    assert_eq!(rt; line.version(), Version::Two);
+
+    let picks = checked(ofarm(alloc, 2, id())?).ok_or("refused")?;
+    assert!(rt; picks.is_ordered() && !picks.sweeps());
+
+    let round = checked(pipe(alloc, wrap(alloc, 1, id(), 1)?, id())?).ok_or("refused")?;
+    assert!(rt; round.has_wrap() && !round.is_ordered() && !round.sweeps());
+    Ok(())
+}
+
+#[test]
+fn a_path_of_steps(rt: HostRuntime) {
+    let mut path = Path::top();
+    path.push(3);
+    path.push(1);
+    assert_eq!(rt; path.len(), 2);
+    assert_eq!(rt; path.child(0), 3);
+    assert_eq!(rt; path.child(1), 1);
+}
