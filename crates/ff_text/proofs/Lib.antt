@@ -8,4 +8,15 @@ pub mod Pipes
 pub mod OpParts
 pub mod Spelled
 pub mod LeavesLaw
+pub mod Named
+pub mod Completes
+pub mod Sound
+pub mod Viable
+pub mod FirstFault
+pub mod Parts
+pub mod Eaten
+pub mod ReadFaults
+pub mod Printed
+pub mod Depths
+pub mod NetPieces
 pub mod PrintedOperations

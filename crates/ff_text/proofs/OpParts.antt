@@ -1,20 +1,72 @@
--- What an operation is read from.
-use Rattle.std.proofs.Common.{◌≡◌, ◌==◌, ℕ, Bool, true, false, cond, List, [], ◌∷◌, length, Option, None, Some, Result, Ok, Err, refl, sym, ap, ◌∙◌}
+-- What an operation is read from: the name of its row, and arguments that fit one by one.
+use Rattle.std.proofs.Common.{◌≡◌, ◌==◌, ◌+◌, ℕ, Bool, true, false, not, ◌&&◌, cond, List, [], ◌∷◌, length, Option, None, Some, Result, Ok, Err, refl, sym, ap, subst, ◌∙◌, arith}
+use Rattle.std.proofs.lemmas.Bool.{eq-eqb, eqb-true}
+use Rattle.std.proofs.lemmas.Iterator.Adapters.{position_from-zero}
+use Rattle.std.specs.List.{position_from, zip}
 use Rattle.std.specs.Prelude.{find}
 use Rattle.std.specs.Cmp.Lexicographic.{bytes_decides}
 use Rattle.ff_rec.specs.Fields.{same_bytes}
+use Rattle.ff_ops.specs.Arguments.{suits, is_within}
 use Rattle.ff_ops.specs.Operation.{OpState, operation, first_unsuited, first_outside, read_op}
 use Rattle.ff_ops.specs.Table.{name_of, kinds_of, row_named}
 use Rattle.ff_ops.specs.declared.arg.Arg.{Arg}
+use Rattle.ff_ops.specs.declared.arg.ArgKind.{ArgKind}
 use Rattle.ff_ops.specs.declared.op.OpFault.{OpFault}
 use Rattle.ff_ops.specs.declared.op.OpFault.TheVariants.{UnknownOp, ArgCount, ArgKind as WrongKind, ArgRange}
 use Rattle.ff_ops.specs.declared.row.Row.{Row}
 use Rattle.ff_ops.specs.declared.row.TheConstants.{ROWS}
 use Rattle.ff_text.specs.Leaves.{IsNew}
+use Rattle.ff_text.specs.Grammar.{AllFit}
+
+-- tests of which none fails
+passed-front : (b : Bool) (i : ℕ) (rest : Option ℕ) → cond (not b) (Some i) rest ≡ None → (b ≡ true) × (rest ≡ None)
+passed-front true i rest e = (refl, e)
+passed-front false i rest e = absurd (cc)
+
+passes-front : (b : Bool) (i : ℕ) (rest : Option ℕ) → b ≡ true → rest ≡ None → cond (not b) (Some i) rest ≡ None
+passes-front true i rest is e = e
+passes-front false i rest is e = absurd (cc)
+
+both-true : (b c : Bool) → b ≡ true → c ≡ true → (b && c) ≡ true
+both-true true true e h = refl
+both-true true false e h = absurd (cc)
+both-true false c e h = absurd (cc)
+
+parts-true : (b c : Bool) → (b && c) ≡ true → (b ≡ true) × (c ≡ true)
+parts-true true c e = (refl, e)
+parts-true false c e = absurd (cc)
+
+AllFit-none : (i j : ℕ) (args : List Arg) (kinds : List ArgKind) → length args ≡ length kinds
+    → position_from (λ a. not (suits a.0 a.1)) i (zip args kinds) ≡ None → position_from (λ a. not (is_within a.0 a.1)) j (zip args kinds) ≡ None → AllFit args kinds
+AllFit-none i j [] [] len u o = tt
+AllFit-none i j [] (k ∷ ks) len u o = absurd (omega arith)
+AllFit-none i j (a ∷ as') [] len u o = absurd (omega arith)
+AllFit-none i j (a ∷ as') (k ∷ ks) len u o =
+    let s = passed-front (suits a k) i (position_from (λ a. not (suits a.0 a.1)) (i + 1) (zip as' ks)) u in
+    let w = passed-front (is_within a k) j (position_from (λ a. not (is_within a.0 a.1)) (j + 1) (zip as' ks)) o in
+    (both-true (suits a k) (is_within a k) s.0 w.0, AllFit-none (i + 1) (j + 1) as' ks (omega arith) s.1 w.1)
+
+none-AllFit : (i j : ℕ) (args : List Arg) (kinds : List ArgKind) → AllFit args kinds
+    → (length args ≡ length kinds) × (position_from (λ a. not (suits a.0 a.1)) i (zip args kinds) ≡ None) × (position_from (λ a. not (is_within a.0 a.1)) j (zip args kinds) ≡ None)
+none-AllFit i j [] [] h = (refl, refl, refl)
+none-AllFit i j [] (k ∷ ks) h = absurd h
+none-AllFit i j (a ∷ as') [] h = absurd h
+none-AllFit i j (a ∷ as') (k ∷ ks) h =
+    let p = parts-true (suits a k) (is_within a k) h.0 in
+    let q = none-AllFit (i + 1) (j + 1) as' ks h.1 in (
+      omega (arith, q.0),
+      passes-front (suits a k) i (position_from (λ a. not (suits a.0 a.1)) (i + 1) (zip as' ks)) p.0 q.1,
+      passes-front (is_within a k) j (position_from (λ a. not (is_within a.0 a.1)) (j + 1) (zip as' ks)) p.1 q.2,
+    )
 
 -- what an operation is read from
-abbrev IsReadFrom : List ℕ → List Arg → Result OpState OpFault → Type 0
-IsReadFrom name args r = (o : OpState) → r ≡ Ok o → (row_named name ≡ Some o.row) × (o.args ≡ args)
+record IsReadFrom (name : List ℕ) (args : List Arg) (o : OpState) : Type 0 where
+  pub named : row_named name ≡ Some o.row
+  pub given : o.args ≡ args
+  pub fit : AllFit args (kinds_of o.row)
+
+abbrev Reads : List ℕ → List Arg → Result OpState OpFault → Type 0
+Reads name args r = (o : OpState) → r ≡ Ok o → IsReadFrom name args o
 
 abbrev within : List Arg → Row → Option ℕ → Result OpState OpFault
 within args row None = Ok (operation row args)
@@ -28,45 +80,66 @@ abbrev by_row : List Arg → Option Row → Result OpState OpFault
 by_row args None = Err UnknownOp
 by_row args (Some row) = cond (length args == length (kinds_of row)) (suited args row (first_unsuited args (kinds_of row))) (Err ArgCount)
 
-IsReadFrom-within : (name : List ℕ) (args : List Arg) (row : Row) → row_named name ≡ Some row → (k : Option ℕ) → IsReadFrom name args (within args row k)
-IsReadFrom-within name args row named None o h =
-    let same : operation row args ≡ o = cc in (named ∙ ap (λ s. Some s.row) same, ap (λ s. s.args) (sym same))
-IsReadFrom-within name args row named (Some k) o h = absurd (cc)
+Reads-within : (name : List ℕ) (args : List Arg) (row : Row) → row_named name ≡ Some row → length args ≡ length (kinds_of row)
+    → first_unsuited args (kinds_of row) ≡ None → (k : Option ℕ) → first_outside args (kinds_of row) ≡ k → Reads name args (within args row k)
+Reads-within name args row named len u None w o h =
+    let same : operation row args ≡ o = cc in
+    let fit = AllFit-none 0 0 args (kinds_of row) len (sym (position_from-zero (λ a. not (suits a.0 a.1)) (zip args (kinds_of row))) ∙ u) (sym (position_from-zero (λ a. not (is_within a.0 a.1)) (zip args (kinds_of row))) ∙ w) in
+    record { named = named ∙ ap (λ s. Some s.row) same; given = ap (λ s. s.args) (sym same); fit = subst (λ (s : OpState). AllFit args (kinds_of s.row)) same fit }
+Reads-within name args row named len u (Some k) w o h = absurd (cc)
 
-IsReadFrom-suited : (name : List ℕ) (args : List Arg) (row : Row) → row_named name ≡ Some row → (k : Option ℕ) → IsReadFrom name args (suited args row k)
-IsReadFrom-suited name args row named None o h = IsReadFrom-within name args row named (first_outside args (kinds_of row)) o h
-IsReadFrom-suited name args row named (Some k) o h = absurd (cc)
+Reads-suited : (name : List ℕ) (args : List Arg) (row : Row) → row_named name ≡ Some row → length args ≡ length (kinds_of row)
+    → (k : Option ℕ) → first_unsuited args (kinds_of row) ≡ k → Reads name args (suited args row k)
+Reads-suited name args row named len None u o h = Reads-within name args row named len u (first_outside args (kinds_of row)) refl o h
+Reads-suited name args row named len (Some k) u o h = absurd (cc)
 
-IsReadFrom-if : (name : List ℕ) (args : List Arg) (test : Bool) (r : Result OpState OpFault) → IsReadFrom name args r → IsReadFrom name args (cond test r (Err ArgCount))
-IsReadFrom-if name args true r h o e = h o e
-IsReadFrom-if name args false r h o e = absurd (cc)
+Reads-if : (name : List ℕ) (args : List Arg) (test : Bool) (r : Result OpState OpFault) → (test ≡ true → Reads name args r) → Reads name args (cond test r (Err ArgCount))
+Reads-if name args true r h o e = h refl o e
+Reads-if name args false r h o e = absurd (cc)
 
-IsReadFrom-by_row : (name : List ℕ) (args : List Arg) (row : Option Row) → row_named name ≡ row → IsReadFrom name args (by_row args row)
-IsReadFrom-by_row name args None named o e = absurd (cc)
-IsReadFrom-by_row name args (Some row) named o e =
-    IsReadFrom-if name args (length args == length (kinds_of row)) (suited args row (first_unsuited args (kinds_of row))) (IsReadFrom-suited name args row named (first_unsuited args (kinds_of row))) o e
+Reads-by_row : (name : List ℕ) (args : List Arg) (row : Option Row) → row_named name ≡ row → Reads name args (by_row args row)
+Reads-by_row name args None named o e = absurd (cc)
+Reads-by_row name args (Some row) named o e =
+    Reads-if name args (length args == length (kinds_of row)) (suited args row (first_unsuited args (kinds_of row)))
+    (λ len. Reads-suited name args row named (eqb-true (length args) (length (kinds_of row)) len) (first_unsuited args (kinds_of row)) refl) o e
 
-IsReadFrom-read_op : (name : List ℕ) (args : List Arg) → IsReadFrom name args (read_op name args)
-IsReadFrom-read_op name args = IsReadFrom-by_row name args (row_named name) refl
+IsReadFrom-read_op : (name : List ℕ) (args : List Arg) → Reads name args (read_op name args)
+IsReadFrom-read_op name args = Reads-by_row name args (row_named name) refl
 
 -- the row with a name has this name
 find-front : {A : Type 0} (test : A → Bool) (y x : A) (rest : Option A) (b : Bool) → test y ≡ b → (rest ≡ Some x → test x ≡ true) → cond b (Some y) rest ≡ Some x → test x ≡ true
 find-front test y x rest true is behind h = let same : y ≡ x = cc in ap test (sym same) ∙ is
 find-front test y x rest false is behind h = behind h
 
-find-test : {A : Type 0} (test : A → Bool) (xs : List A) (x : A) → find test xs ≡ Some x → test x ≡ true
+pub find-test : {A : Type 0} (test : A → Bool) (xs : List A) (x : A) → find test xs ≡ Some x → test x ≡ true
 find-test test [] x e = absurd (cc)
 find-test test (y ∷ ys) x e = find-front test y x (find test ys) (test y) refl (find-test test ys x) e
 
-name_of-row_named : (name : List ℕ) (row : Row) → row_named name ≡ Some row → name_of row ≡ name
+pub name_of-row_named : (name : List ℕ) (row : Row) → row_named name ≡ Some row → name_of row ≡ name
 name_of-row_named name row e =
     (bytes_decides (name_of row) name).0 (find-test (λ r. same_bytes (name_of r) name) ROWS row e)
 
 -- an operation has the name and the arguments that it is read from
 pub read_op-parts : (name : List ℕ) (args : List Arg) (o : OpState) → read_op name args ≡ Ok o → (name_of o.row ≡ name) × (o.args ≡ args)
 read_op-parts name args o e =
-    let h = IsReadFrom-read_op name args o e in (name_of-row_named name o.row h.0, h.1)
+    let h = IsReadFrom-read_op name args o e in (name_of-row_named name o.row h.named, h.given)
 
 pub IsNew-read_op : (name : List ℕ) (args : List Arg) (o : OpState) → read_op name args ≡ Ok o → IsNew o
 IsNew-read_op name args o e =
     let h = read_op-parts name args o e in ap (λ n. read_op n o.args) h.0 ∙ ap (λ l. read_op name l) h.1 ∙ e
+
+-- its name is that of its row, and its arguments fit
+pub IsNew-named : (o : OpState) → IsNew o → row_named (name_of o.row) ≡ Some o.row
+IsNew-named o new = (IsReadFrom-read_op (name_of o.row) o.args o new).named
+
+pub IsNew-AllFit : (o : OpState) → IsNew o → AllFit o.args (kinds_of o.row)
+IsNew-AllFit o new = (IsReadFrom-read_op (name_of o.row) o.args o new).fit
+
+-- arguments that fit make an operation
+pub read_op-AllFit : (name : List ℕ) (row : Row) (args : List Arg) → row_named name ≡ Some row → AllFit args (kinds_of row) → read_op name args ≡ Ok (operation row args)
+read_op-AllFit name row args named fit =
+    let h = none-AllFit 0 0 args (kinds_of row) fit in
+    ap (by_row args) named
+    ∙ ap (λ b. cond b (suited args row (first_unsuited args (kinds_of row))) (Err ArgCount)) (eq-eqb (length args) (length (kinds_of row)) h.0)
+    ∙ ap (suited args row) (position_from-zero (λ a. not (suits a.0 a.1)) (zip args (kinds_of row)) ∙ h.1)
+    ∙ ap (within args row) (position_from-zero (λ a. not (is_within a.0 a.1)) (zip args (kinds_of row)) ∙ h.2)

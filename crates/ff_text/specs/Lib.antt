@@ -5,4 +5,12 @@ pub mod Seen
 pub mod Printing
 pub mod CutLaws
 pub mod Leaves
+pub mod Grammar
+pub mod Faults
+pub mod Wants
+pub mod WantLaws
+pub mod Reading
+pub mod NetPrinting
+pub mod DepthLaw
+pub mod PrintLaw
 pub mod PrintedOperations

@@ -1,8 +1,11 @@
 // What holds of the words of this crate's contracts, whatever the call.
 ghost use Rattle.ff_text.specs.CutLaws.{CutsFrontFirst, StopsAtItsEnd};
+ghost use Rattle.ff_text.specs.DepthLaw.{RoomIsDepth};
 ghost use Rattle.ff_text.specs.Leaves.{LeavesAreSpelled};
 ghost use Rattle.ff_text.specs.PrintedOperations.{PrintedOpIsRead, PrintedOpIsSpelling};
 ghost use Rattle.ff_text.specs.Printing.{PrintedIsCut};
+ghost use Rattle.ff_text.specs.PrintLaw.{PrintedNetsAreSpelled};
+ghost use Rattle.ff_text.specs.WantLaws.{TextsAreTaken, StopsAreFaults};
 
 #[cfg(test)]
 mod tests;
@@ -30,6 +33,28 @@ pub fn printed_pieces_are_cut_into_them()
 pub fn leaves_are_what_a_text_spells()
     ensures { LeavesAreSpelled }
 {}
+
+/// What spells a network is taken where a network is wanted.
+pub fn texts_of_networks_are_taken()
+    ensures { TextsAreTaken }
+{}
+
+/// Where the machine of wants stops is the first fault of a text.
+pub fn stops_are_first_faults()
+    ensures { StopsAreFaults }
+{}
+
+/// How many forms stand round one another in a network is its depth less one.
+pub fn forms_round_one_another_are_the_depth()
+    ensures { RoomIsDepth }
+{}
+
+/// A printed network is cut into the tokens that spell it.
+pub fn printed_networks_are_spelled()
+    ensures { PrintedNetsAreSpelled }
+{
+    printed_pieces_are_cut_into_them();
+}
 
 /// What is printed of an operation is read as that one operation, where no text among its arguments holds a quote.
 pub fn printed_operations_are_read()

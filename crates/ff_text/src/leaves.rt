@@ -6,6 +6,9 @@ ghost use Rattle.ff_text.specs.Printing.{tokens_of};
 ghost use Rattle.ff_text.specs.Seen.{token_of};
 ghost use Rattle.ff_text.specs.Tokens.{Word, Stop, HasPlainText};
 
+#[cfg(test)]
+mod tests;
+
 use crate::{Mark, Reader, Token};
 use ff_node::Cmp;
 use ff_ops::{Arg, Op, OpFault, OpNode};
@@ -147,8 +150,8 @@ fn next_argument(alloc: Global, reader: &mut Reader) -> Result<Option<Arg>, NoMe
     Ok(arg)
 }
 
-// The argument that a token is.
-fn argument(alloc: Global, token: Token) -> Result<Option<Arg>, NoMemory>
+/// The argument that a token is.
+pub(crate) fn argument(alloc: Global, token: Token) -> Result<Option<Arg>, NoMemory>
     requires { HasPlainText (token_of token) }
     ensures { IfOk result (λ arg. arg ≡ argument (token_of token.entry)) }
 {

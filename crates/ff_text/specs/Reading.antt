@@ -1,0 +1,33 @@
+-- What the code's readers answer, each for its wants.
+use Rattle.std.specs.Prelude.{◌≡◌, ℕ, ◌<◌, ◌≤◌, ◌⊎◌, length, Bool, true, false, List, ◌∷◌, ◌++◌, Result, Ok, Err}
+use Rattle.ff_text.specs.declared.fault.ReadFault.{ReadFault}
+use Rattle.ff_text.specs.declared.fault.ReadFault.TheVariants.{Text, NoMemory}
+use Rattle.ff_text.specs.declared.fault.TextKind.TheVariants.{TooLong}
+use Rattle.ff_text.specs.Tokens.{Spot}
+use Rattle.ff_text.specs.Cutting.{tokens}
+use Rattle.ff_text.specs.Faults.{IsFault}
+use Rattle.ff_text.specs.Wants.{Want, Network, Parts, walk}
+
+-- Whatever is wanted behind: what is wanted was taken, and the rest stands ahead; or the first fault is in it.
+abbrev pub IsEaten : {A : Type 0} → List Want → Result A ReadFault → List Spot → List Spot → Type 0
+IsEaten us (Ok x) old new = (ws : List Want) → walk old (us ++ ws) ≡ walk new ws
+IsEaten us (Err (Text at kind)) old new = (ws : List Want) → walk old (us ++ ws) ≡ Err (record { at = at; kind = kind })
+IsEaten us (Err NoMemory) old new = Unit {0}
+
+-- The same behind a part of a pipe or comb: another part follows, or it ends.
+abbrev pub IsAnother : ℕ → Result Bool ReadFault → List Spot → List Spot → Type 0
+IsAnother room (Ok true) old new = (ws : List Want) → walk old (Parts room ∷ ws) ≡ walk new (Network room ∷ Parts room ∷ ws)
+IsAnother room (Ok false) old new = (ws : List Want) → walk old (Parts room ∷ ws) ≡ walk new ws
+IsAnother room (Err (Text at kind)) old new = (ws : List Want) → walk old (Parts room ∷ ws) ≡ Err (record { at = at; kind = kind })
+IsAnother room (Err NoMemory) old new = Unit {0}
+
+-- whatever is wanted behind, this is the first fault
+abbrev pub IsStopped : List Want → ReadFault → List Spot → Type 0
+IsStopped us (Text at kind) spots = (ws : List Want) → walk spots (us ++ ws) ≡ Err (record { at = at; kind = kind })
+IsStopped us NoMemory spots = Unit {0}
+
+-- Why a text isn't read: it is too long, or it has a first fault. Want of memory says nothing of the text.
+abbrev pub IsReadFault : List ℕ → ReadFault → Type 0
+IsReadFault text (Text at kind) =
+    ((65536 < length text) × (at ≡ 65536) × (kind ≡ TooLong)) ⊎ ((length text ≤ 65536) × IsFault (tokens text) (record { at = at; kind = kind }))
+IsReadFault text NoMemory = Unit {0}

@@ -1,0 +1,139 @@
+-- A machine that reads tokens one by one and knows what may still stand: each want takes one token.
+use Rattle.std.specs.Prelude.{ℕ, zero, suc, Bool, true, false, ◌||◌, if◌then◌else◌, List, [], ◌∷◌, ◌++◌, map, codes, Option, None, Some, Result, Ok, Err}
+use Rattle.ff_rec.specs.Fields.{same_bytes}
+use Rattle.ff_ops.specs.Arguments.{suits, is_within, is_numeric}
+use Rattle.ff_ops.specs.Table.{kinds_of, row_named}
+use Rattle.ff_ops.specs.declared.arg.Arg.{Arg}
+use Rattle.ff_ops.specs.declared.arg.ArgKind.{ArgKind}
+use Rattle.ff_ops.specs.declared.arg.ArgKind.TheVariants.{Num as AnyNumber, Cmp as AnyComparison}
+use Rattle.ff_ops.specs.declared.row.Row.{Row}
+use Rattle.ff_text.specs.declared.fault.TextKind.{TextKind}
+use Rattle.ff_text.specs.declared.fault.TextKind.TheVariants.{BadByte, BadToken, UnknownName, Range, Deep, End}
+use Rattle.ff_text.specs.declared.form.Form.{Form}
+use Rattle.ff_text.specs.declared.form.Form.TheVariants.{Pipe, Comb, Farm, OFarm, A2a, Wrap}
+use Rattle.ff_text.specs.declared.mark.Mark.TheVariants.{Open, Close, Comma, Less, AtMost, Equal, Unequal, AtLeast, Greater, Semicolon}
+use Rattle.ff_text.specs.Tokens.{Token, Word, Number, Sign, Quoted, Bad, Stop, Spot}
+use Rattle.ff_text.specs.Leaves.{argument}
+use Rattle.ff_text.specs.Grammar.{form_named, a_count}
+use Rattle.ff_text.specs.Faults.{Fault}
+
+-- a network with at most so many forms round one another, the parts behind one, an argument, `rr` or `od`, a route, a mark,
+-- `if`, the end
+pub data Want : Type 0 where
+  Network : ℕ → Want
+  Parts : ℕ → Want
+  Argument : ArgKind → Want
+  Schedule : Want
+  Routing : Want
+  Opening : Want
+  Closing : Want
+  Condition : Want
+  Finish : Want
+
+-- what stands behind the word of a form
+abbrev pub rest_of : ℕ → Form → List Want
+rest_of room Pipe = Opening ∷ Network room ∷ Parts room ∷ []
+rest_of room Comb = Opening ∷ Network room ∷ Parts room ∷ []
+rest_of room Farm = Argument a_count ∷ Schedule ∷ Opening ∷ Network room ∷ Closing ∷ []
+rest_of room OFarm = Argument a_count ∷ Schedule ∷ Opening ∷ Network room ∷ Closing ∷ []
+rest_of room A2a = Argument a_count ∷ Opening ∷ Network room ∷ Closing ∷ Routing ∷ Argument a_count ∷ Opening ∷ Network room ∷ Closing ∷ []
+rest_of room Wrap = Argument a_count ∷ Opening ∷ Network room ∷ Closing ∷ Condition ∷ Argument a_count ∷ Argument AnyComparison ∷ Argument AnyNumber ∷ []
+
+-- what is wrong with a token that doesn't stand in its place
+abbrev pub refused : Token → TextKind
+refused (Word bytes) = BadToken
+refused (Number n) = BadToken
+refused (Sign Open) = BadToken
+refused (Sign Close) = BadToken
+refused (Sign Comma) = BadToken
+refused (Sign Less) = BadToken
+refused (Sign AtMost) = BadToken
+refused (Sign Equal) = BadToken
+refused (Sign Unequal) = BadToken
+refused (Sign AtLeast) = BadToken
+refused (Sign Greater) = BadToken
+refused (Sign Semicolon) = BadByte
+refused (Quoted bytes) = BadToken
+refused Bad = BadByte
+refused Stop = End
+
+-- behind the word of a form, of an operation, or of neither
+abbrev pub begin_named : Option Form → Option Row → ℕ → Result (List Want) TextKind
+begin_named (Some f) row zero = Err Deep
+begin_named (Some f) row (suc room) = Ok (rest_of room f)
+begin_named None (Some row) room = Ok (map (λ kind. Argument kind) (kinds_of row))
+begin_named None None room = Err UnknownName
+
+abbrev pub begin : ℕ → List ℕ → Result (List Want) TextKind
+begin room name = begin_named (form_named name) (row_named name) room
+
+-- a number beyond 64 bits
+abbrev pub is_beyond : Token → Bool
+is_beyond (Number None) = true
+is_beyond _ = false
+
+-- where an argument is awaited: one, a number beyond 64 bits, or another token
+abbrev pub take_argument : ArgKind → Option Arg → Token → Result (List Want) TextKind
+take_argument kind (Some a) t = if suits a kind then (if is_within a kind then Ok [] else Err Range) else Err (refused t)
+take_argument kind None (Number n) = if is_numeric kind then Err Range else Err BadToken
+take_argument kind None t = Err (refused t)
+
+-- where one of two words is awaited
+abbrev pub is_sched : List ℕ → Bool
+is_sched name = same_bytes name (codes "rr") || same_bytes name (codes "od")
+
+abbrev pub take_route : List ℕ → Result (List Want) TextKind
+take_route name =
+    if is_sched name then Ok [] else (if same_bytes name (codes "by") then Ok (Argument a_count ∷ []) else Err BadToken)
+
+-- what a token leaves of a want, or what is wrong with it
+abbrev pub expand : Want → Token → Result (List Want) TextKind
+expand (Network room) (Word name) = begin room name
+expand (Network room) t = Err (refused t)
+expand (Parts room) (Sign Comma) = Ok (Network room ∷ Parts room ∷ [])
+expand (Parts room) (Sign Close) = Ok []
+expand (Parts room) t = Err (refused t)
+expand (Argument kind) t = take_argument kind (argument t) t
+expand Schedule (Word name) = if is_sched name then Ok [] else Err BadToken
+expand Schedule t = Err (refused t)
+expand Routing (Word name) = take_route name
+expand Routing t = Err (refused t)
+expand Opening (Sign Open) = Ok []
+expand Opening t = Err (refused t)
+expand Closing (Sign Close) = Ok []
+expand Closing t = Err (refused t)
+expand Condition (Word name) = if same_bytes name (codes "if") then Ok [] else Err BadToken
+expand Condition t = Err (refused t)
+expand Finish Stop = Ok []
+expand Finish t = Err (refused t)
+
+-- the same of the first of several wants
+abbrev pub pushed : Result (List Want) TextKind → List Want → Result (List Want) TextKind
+pushed (Ok new) ws = Ok (new ++ ws)
+pushed (Err kind) ws = Err kind
+
+abbrev pub step : List Want → Token → Result (List Want) TextKind
+step [] t = Err (refused t)
+step (w ∷ ws) t = pushed (expand w t) ws
+
+-- along tokens
+abbrev pub then_run : (List Want → Result (List Want) TextKind) → Result (List Want) TextKind → Result (List Want) TextKind
+then_run run (Ok ws) = run ws
+then_run run (Err kind) = Err kind
+
+abbrev pub run : List Token → List Want → Result (List Want) TextKind
+run [] ws = Ok ws
+run (t ∷ ts) ws = then_run (run ts) (step ws t)
+
+-- along tokens at their places, up to the first fault
+abbrev pub then_walk : ℕ → (List Want → Result (List Want) Fault) → Result (List Want) TextKind → Result (List Want) Fault
+then_walk at walk (Ok ws) = walk ws
+then_walk at walk (Err kind) = Err (record { at = at; kind = kind })
+
+abbrev pub walk : List Spot → List Want → Result (List Want) Fault
+walk [] ws = Ok ws
+walk (s ∷ ss) ws = then_walk s.at (walk ss) (step ws s.token)
+
+-- a whole text of depth 16 at most
+abbrev pub start : List Want
+start = Network 15 ∷ Finish ∷ []

@@ -1,0 +1,68 @@
+// The network that a text describes.
+ghost use Rattle.std.specs.Prelude.{◌≡◌, ◌≤◌, ◌∷◌, [], IfOk, OnOk, IfErr, length};
+ghost use Rattle.ff_net.specs.Tree.{tree_of};
+ghost use Rattle.ff_text.specs.Cutting.{tokens};
+ghost use Rattle.ff_text.specs.Faults.{text_of};
+ghost use Rattle.ff_text.specs.Grammar.{IsNet};
+ghost use Rattle.ff_text.specs.Printing.{tokens_of};
+ghost use Rattle.ff_text.specs.Reading.{IsStopped, IsReadFault};
+ghost use Rattle.ff_text.specs.Tokens.{Stop};
+ghost use Rattle.ff_text.specs.Wants.{Finish};
+
+#[cfg(test)]
+mod tests;
+
+use crate::network::network;
+use crate::piece::refused;
+use crate::{ReadFault, Reader, TextKind, Token};
+use ff_net::{Net, Version};
+use ff_ops::OpNode;
+use std::alloc::Global;
+
+/// A network, and the version of the text that describes it.
+#[derive(Drop)]
+pub struct Described {
+    pub version: Version,
+    pub net: Net<OpNode>,
+}
+
+/// The most bytes that a text of version One has.
+pub const MOST_BYTES: usize = 65_536;
+
+/// How many forms may stand round one another: networks have a depth of at most 16.
+const MOST_FORMS: usize = 15;
+
+/// The network that a text spells, with its nodes before their first records.
+pub fn read_net(alloc: Global, text: &[u8]) -> Result<Described, ReadFault>
+    ensures version { IfOk result (λ d. d.version ≡ Version.One) }
+    ensures net { IfOk result (λ d. IsNet (tree_of d.net) 15) }
+    ensures text { IfOk result (λ d. tokens_of (tokens text.now) ≡ text_of (tree_of d.net)) }
+    ensures within { OnOk result (length text.now ≤ 65536) }
+    ensures fault { IfErr result (λ fault. IsReadFault text.now fault) }
+{
+    if text.len() > MOST_BYTES {
+        return Err(ReadFault::Text {
+            at: MOST_BYTES,
+            kind: TextKind::TooLong,
+        });
+    }
+    let mut reader = Reader::new(text);
+    let net = network(alloc, MOST_FORMS, &mut reader)?;
+    finish(&mut reader)?;
+    Ok(Described {
+        version: Version::One,
+        net,
+    })
+}
+
+// The end of the text.
+fn finish(reader: &mut Reader) -> Result<(), ReadFault>
+    ensures stopped { IfErr result (λ fault. IsStopped (Finish ∷ []) fault reader.old) }
+    ensures text { OnOk result (tokens_of reader.old ≡ Stop ∷ []) }
+{
+    let spot = reader.next();
+    match spot.token {
+        Token::Stop => Ok(()),
+        _ => Err(refused(spot)),
+    }
+}

@@ -1,0 +1,184 @@
+// What no clause says: that networks are read while memory is there. The texts and places are counted by hand.
+use super::{Described, read_net};
+use crate::{ReadFault, TextKind};
+use ff_net::{Net, Route, Sched, Version};
+use ff_node::Cmp;
+use std::alloc::Global;
+use std::process::Abort;
+use std::test::Fail;
+
+fn expect_fault(rt: &impl Abort, alloc: Global, text: &[u8], at: usize, kind: TextKind) {
+    match read_net(alloc, text) {
+        Ok(_) => panic!(rt; "it is read"),
+        Err(fault) => assert_eq!(rt; fault, ReadFault::Text { at, kind }),
+    }
+}
+
+fn expect_read(rt: &impl Abort, alloc: Global, text: &[u8]) {
+    match read_net(alloc, text) {
+        Ok(described) => assert_eq!(rt; described.version, Version::One),
+        Err(fault) => panic!(rt; "{fault:?}"),
+    }
+}
+
+#[test]
+fn text_faults(rt: HostRuntime) {
+    let alloc = rt.alloc();
+    for (text, at, kind) in [
+        ("add 1", 5, TextKind::End),
+        ("pipe(id,, id)", 8, TextKind::BadToken),
+        ("take 0", 5, TextKind::Range),
+        ("addx 1 1", 0, TextKind::UnknownName),
+        ("id ?", 3, TextKind::BadByte),
+        ("", 0, TextKind::End),
+        ("farm 4294967296 rr (id)", 5, TextKind::Range),
+        ("farm -1 rr (id)", 5, TextKind::Range),
+        ("farm two rr (id)", 5, TextKind::BadToken),
+        ("farm 2 ordered (id)", 7, TextKind::BadToken),
+        ("farm 2 rr id", 10, TextKind::BadToken),
+        ("farm 2 rr (id", 13, TextKind::End),
+        ("farm 2 rr (farm)", 15, TextKind::BadToken),
+        ("add 65 1", 4, TextKind::Range),
+        ("add 0 1", 4, TextKind::Range),
+        ("add < 1", 4, TextKind::BadToken),
+        ("add 1 9223372036854775808", 6, TextKind::Range),
+        ("div 1 0", 6, TextKind::Range),
+        ("set 1 5", 6, TextKind::BadToken),
+        ("set 1 99999999999999999999", 6, TextKind::BadToken),
+        ("set 1 \"a", 6, TextKind::BadByte),
+        ("if 1 5 5", 5, TextKind::BadToken),
+        ("if 1 ! 5", 5, TextKind::BadByte),
+        ("id id", 3, TextKind::BadToken),
+        ("id; id", 2, TextKind::BadByte),
+        ("id )", 3, TextKind::BadToken),
+        ("pipe", 4, TextKind::End),
+        ("pipe()", 5, TextKind::BadToken),
+        ("pipe(id,)", 8, TextKind::BadToken),
+        ("pipe(id, nothing)", 9, TextKind::UnknownName),
+        ("comb(id id)", 8, TextKind::BadToken),
+        ("5", 0, TextKind::BadToken),
+        ("-", 0, TextKind::BadByte),
+        ("Id", 0, TextKind::BadByte),
+        ("a2a 2 (id) on 3 (id)", 11, TextKind::BadToken),
+        ("a2a 2 (id) by 3 (id)", 16, TextKind::BadToken),
+        ("a2a 2 (id) by -1 3 (id)", 14, TextKind::Range),
+        ("wrap 2 (id) of 1 > 1", 12, TextKind::BadToken),
+        ("wrap 2 (id) if 1 1", 17, TextKind::BadToken),
+        ("wrap 2 (id) if 1 > x", 19, TextKind::BadToken),
+        ("ffrun2 id", 0, TextKind::UnknownName),
+        ("let w = id; w", 0, TextKind::UnknownName),
+        ("call 1 \"cube\"", 0, TextKind::UnknownName),
+    ] {
+        expect_fault(&rt, alloc, text.as_bytes(), at, kind);
+    }
+}
+
+// `pipe(` and `)` so many times round `id`.
+fn nested(alloc: Global, depth: usize) -> Result<Vec<u8>, Fail> {
+    let mut text = Vec::new(alloc);
+    for _ in 0..depth {
+        text.extend_from_slice(b"pipe(")?;
+    }
+    text.extend_from_slice(b"id")?;
+    for _ in 0..depth {
+        text.push(b')')?;
+    }
+    Ok(text)
+}
+
+#[test]
+fn sixteen_pipes(rt: HostRuntime) -> Result<(), Fail> {
+    let alloc = rt.alloc();
+    expect_read(&rt, alloc, &nested(alloc, 15)?);
+    expect_fault(&rt, alloc, &nested(alloc, 16)?, 75, TextKind::Deep);
+    expect_fault(&rt, alloc, &nested(alloc, 17)?, 75, TextKind::Deep);
+    Ok(())
+}
+
+#[test]
+fn hostile_texts(rt: HostRuntime) -> Result<(), Fail> {
+    let alloc = rt.alloc();
+    let mut marks = Vec::new(alloc);
+    for _ in 0..65_536 {
+        marks.push(b'(')?;
+    }
+    expect_fault(&rt, alloc, &marks, 0, TextKind::BadToken);
+    marks.push(b'(')?;
+    expect_fault(&rt, alloc, &marks, 65_536, TextKind::TooLong);
+    let mut blanks = Vec::from_slice(alloc, b"id")?;
+    for _ in 2..65_536 {
+        blanks.push(b' ')?;
+    }
+    expect_read(&rt, alloc, &blanks);
+    Ok(())
+}
+
+#[test]
+fn each_proper_prefix_is_a_fault(rt: HostRuntime) {
+    let text = b"pipe(add 1 5, farm 2 rr (id))";
+    expect_read(&rt, rt.alloc(), text.as_slice());
+    for len in 0..text.len() {
+        match read_net(rt.alloc(), &text[..len]) {
+            Err(ReadFault::Text { .. }) => {}
+            _ => panic!(&rt; "{len} bytes are read"),
+        }
+    }
+}
+
+// The network of a text.
+fn read(alloc: Global, text: &str) -> Result<Described, Fail> {
+    match read_net(alloc, text.as_bytes()) {
+        Ok(described) => Ok(described),
+        Err(_) => Err("not read".into()),
+    }
+}
+
+#[test]
+fn forms_have_their_numbers(rt: HostRuntime) -> Result<(), Fail> {
+    let alloc = rt.alloc();
+    match read(alloc, "farm 4294967295 od (id)")?.net {
+        Net::Farm { workers, sched, .. } => {
+            assert_eq!(&rt; workers, 4_294_967_295);
+            assert_eq!(&rt; sched, Sched::Od);
+        }
+        _ => panic!(&rt; "no farm"),
+    }
+    match read(alloc, "ofarm 3 rr (comb(id, neg 1))")?.net {
+        Net::OFarm { workers, sched, .. } => {
+            assert_eq!(&rt; workers, 3);
+            assert_eq!(&rt; sched, Sched::Rr);
+        }
+        _ => panic!(&rt; "no ordered farm"),
+    }
+    match read(alloc, "a2a 2 (id) by 7 3 (tallyby 1)")?.net {
+        Net::A2a {
+            left,
+            route,
+            right,
+            ..
+        } => {
+            assert_eq!(&rt; left, 2);
+            assert_eq!(&rt; route, Route::By(7));
+            assert_eq!(&rt; right, 3);
+        }
+        _ => panic!(&rt; "no all-to-all"),
+    }
+    match read(alloc, "wrap 5 (id) if 2 <= -9")?.net {
+        Net::Wrap { workers, test, .. } => {
+            assert_eq!(&rt; workers, 5);
+            assert_eq!(&rt; test.field, 2);
+            assert_eq!(&rt; test.cmp, Cmp::Le);
+            assert_eq!(&rt; test.value, -9);
+        }
+        _ => panic!(&rt; "no wrap"),
+    }
+    match read(alloc, "pipe(id, comb(id), id)")?.net {
+        Net::Pipe(parts) => assert_eq!(&rt; parts.len(), 3),
+        _ => panic!(&rt; "no pipe"),
+    }
+    match read(alloc, "comb(id, id)")?.net {
+        Net::Comb(parts) => assert_eq!(&rt; parts.len(), 2),
+        _ => panic!(&rt; "no comb"),
+    }
+    Ok(())
+}
