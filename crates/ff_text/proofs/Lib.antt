@@ -9,6 +9,7 @@ pub mod OpParts
 pub mod Spelled
 pub mod LeavesLaw
 pub mod Named
+pub mod OneNet
 pub mod Completes
 pub mod Sound
 pub mod Viable
@@ -19,4 +20,8 @@ pub mod ReadFaults
 pub mod Printed
 pub mod Depths
 pub mod NetPieces
+pub mod Unnamed
+pub mod Opened
+pub mod Uses
+pub mod Shorter
 pub mod PrintedOperations

@@ -1,11 +1,13 @@
 -- The parts of a pipe or comb, one more at their end.
-use Rattle.std.proofs.Common.{◌≡◌, ℕ, Bool, true, false, List, [], ◌∷◌, ◌++◌, refl, sym, ap, ◌∙◌, append_assoc, if◌then◌else◌}
+use Rattle.std.proofs.Common.{◌≡◌, ℕ, Bool, true, false, List, [], ◌∷◌, ◌++◌, refl, sym, subst, if◌then◌else◌}
 use Rattle.ff_ops.specs.Operation.{OpState}
 use Rattle.ff_net.specs.Tree.{Trees, none, more, tree_of, trees_of}
 use Rattle.ff_net.specs.declared.net.Net.{Net}
 use Rattle.ff_text.specs.declared.mark.Mark.TheVariants.{Close, Comma}
 use Rattle.ff_text.specs.Tokens.{Token, Sign}
-use Rattle.ff_text.specs.Grammar.{spelling, parts_spelling, behind_spelling, IsNet, AreParts, AreBehind}
+use Rattle.ff_text.specs.Grammar.{IsNet, AreParts, AreBehind}
+use Rattle.ff_text.specs.Names.{Name}
+use Rattle.ff_text.specs.Spelling.{Front, Spells, SpellsParts, SpellsBehind}
 use Rattle.ff_text.specs.Wants.{Want, Network, Parts}
 
 -- what is still wanted
@@ -19,13 +21,13 @@ ArePartsSoFar true ts room = AreBehind ts room
 ArePartsSoFar false ts room = AreParts ts room
 
 -- parts with a `,` behind each
-abbrev pub before_spelling : Trees OpState → List Token
-before_spelling none = []
-before_spelling (more t ts) = spelling t ++ Sign Comma ∷ before_spelling ts
+abbrev pub SpellsBefore : List Name → Trees OpState → Front
+SpellsBefore names none ts rest = ts ≡ rest
+SpellsBefore names (more t us) ts rest = (behind : List Token) × Spells names t ts (Sign Comma ∷ behind) × SpellsBefore names us behind rest
 
-abbrev pub so_far : Bool → Trees OpState → List Token
-so_far true ts = before_spelling ts
-so_far false ts = parts_spelling ts
+abbrev pub SpellsSoFar : List Name → Bool → Trees OpState → Front
+SpellsSoFar names true us ts rest = SpellsBefore names us ts rest
+SpellsSoFar names false us ts rest = SpellsParts names us ts (Sign Close ∷ rest)
 
 -- one more
 AreBehind-push : (ns : List (Net OpState)) (n : Net OpState) (room : ℕ) → AreBehind (trees_of ns) room → IsNet (tree_of n) room → AreBehind (trees_of (ns ++ n ∷ [])) room
@@ -40,33 +42,24 @@ pub ArePartsSoFar-push : (another : Bool) (ns : List (Net OpState)) (n : Net OpS
 ArePartsSoFar-push true ns n room h net = AreBehind-push ns n room h net
 ArePartsSoFar-push false ns n room h net = AreParts-push ns n room h net
 
-before_spelling-push : (ns : List (Net OpState)) (n : Net OpState) → before_spelling (trees_of (ns ++ n ∷ [])) ≡ before_spelling (trees_of ns) ++ (spelling (tree_of n) ++ Sign Comma ∷ [])
-before_spelling-push [] n = refl
-before_spelling-push (m ∷ ns) n =
-    ap (λ us. spelling (tree_of m) ++ Sign Comma ∷ us) (before_spelling-push ns n)
-    ∙ sym (append_assoc (spelling (tree_of m)) (Sign Comma ∷ before_spelling (trees_of ns)) (spelling (tree_of n) ++ Sign Comma ∷ []))
-
-behind_spelling-push : (ns : List (Net OpState)) (n : Net OpState) → behind_spelling (trees_of (ns ++ n ∷ [])) ≡ Sign Comma ∷ (before_spelling (trees_of ns) ++ (spelling (tree_of n) ++ Sign Close ∷ []))
-behind_spelling-push [] n = refl
-behind_spelling-push (m ∷ ns) n =
-    ap (λ us. Sign Comma ∷ (spelling (tree_of m) ++ us)) (behind_spelling-push ns n)
-    ∙ ap (λ us. Sign Comma ∷ us) (sym (append_assoc (spelling (tree_of m)) (Sign Comma ∷ before_spelling (trees_of ns)) (spelling (tree_of n) ++ Sign Close ∷ [])))
-
-parts_spelling-push : (ns : List (Net OpState)) (n : Net OpState) → parts_spelling (trees_of (ns ++ n ∷ [])) ≡ before_spelling (trees_of ns) ++ (spelling (tree_of n) ++ Sign Close ∷ [])
-parts_spelling-push [] n = refl
-parts_spelling-push (m ∷ ns) n =
-    ap (λ us. spelling (tree_of m) ++ us) (behind_spelling-push ns n)
-    ∙ sym (append_assoc (spelling (tree_of m)) (Sign Comma ∷ before_spelling (trees_of ns)) (spelling (tree_of n) ++ Sign Close ∷ []))
-
-so_far-one : (another : Bool) (ns : List (Net OpState)) (n : Net OpState) → so_far another (trees_of (ns ++ n ∷ [])) ≡ before_spelling (trees_of ns) ++ (spelling (tree_of n) ++ Sign (if another then Comma else Close) ∷ [])
-so_far-one true ns n = before_spelling-push ns n
-so_far-one false ns n = parts_spelling-push ns n
-
 -- and what is behind it
-pub so_far-push : (another : Bool) (ns : List (Net OpState)) (n : Net OpState) (rest : List Token)
-    → before_spelling (trees_of ns) ++ (spelling (tree_of n) ++ Sign (if another then Comma else Close) ∷ rest) ≡ so_far another (trees_of (ns ++ n ∷ [])) ++ rest
-so_far-push another ns n rest =
-    let mark = Sign (if another then Comma else Close) in
-    ap (λ us. before_spelling (trees_of ns) ++ us) (sym (append_assoc (spelling (tree_of n)) (mark ∷ []) rest))
-    ∙ sym (append_assoc (before_spelling (trees_of ns)) (spelling (tree_of n) ++ mark ∷ []) rest)
-    ∙ ap (λ us. us ++ rest) (sym (so_far-one another ns n))
+module _ (names : List Name) (n : Net OpState) (mid : List Token) where
+  SpellsBefore-push : (ns : List (Net OpState)) (ts rest : List Token) → SpellsBefore names (trees_of ns) ts mid → Spells names (tree_of n) mid (Sign Comma ∷ rest)
+      → SpellsBefore names (trees_of (ns ++ n ∷ [])) ts rest
+  SpellsBefore-push [] ts rest h k = (rest, subst (λ us. Spells names (tree_of n) us (Sign Comma ∷ rest)) (sym h) k, refl)
+  SpellsBefore-push (m ∷ ns) ts rest h k = (h.0, h.1, SpellsBefore-push ns h.0 rest h.2 k)
+
+  SpellsBehind-push : (ns : List (Net OpState)) (ts rest : List Token) → SpellsBefore names (trees_of ns) ts mid → Spells names (tree_of n) mid rest
+      → SpellsBehind names (trees_of (ns ++ n ∷ [])) (Sign Comma ∷ ts) rest
+  SpellsBehind-push [] ts rest h k = (ts, rest, refl, subst (λ us. Spells names (tree_of n) us rest) (sym h) k, refl)
+  SpellsBehind-push (m ∷ ns) ts rest h k = (ts, Sign Comma ∷ h.0, refl, h.1, SpellsBehind-push ns h.0 rest h.2 k)
+
+  SpellsParts-push : (ns : List (Net OpState)) (ts rest : List Token) → SpellsBefore names (trees_of ns) ts mid → Spells names (tree_of n) mid rest
+      → SpellsParts names (trees_of (ns ++ n ∷ [])) ts rest
+  SpellsParts-push [] ts rest h k = (rest, subst (λ us. Spells names (tree_of n) us rest) (sym h) k, refl)
+  SpellsParts-push (m ∷ ns) ts rest h k = (Sign Comma ∷ h.0, h.1, SpellsBehind-push ns h.0 rest h.2 k)
+
+  pub SpellsSoFar-push : (another : Bool) (ns : List (Net OpState)) (ts rest : List Token) → SpellsBefore names (trees_of ns) ts mid
+      → Spells names (tree_of n) mid (Sign (if another then Comma else Close) ∷ rest) → SpellsSoFar names another (trees_of (ns ++ n ∷ [])) ts rest
+  SpellsSoFar-push true ns ts rest h k = SpellsBefore-push ns ts rest h k
+  SpellsSoFar-push false ns ts rest h k = SpellsParts-push ns ts (Sign Close ∷ rest) h k

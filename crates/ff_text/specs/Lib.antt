@@ -6,8 +6,12 @@ pub mod Printing
 pub mod CutLaws
 pub mod Leaves
 pub mod Grammar
+pub mod SpellingLaw
 pub mod Faults
+pub mod Names
 pub mod Wants
+pub mod Spelling
+pub mod Copies
 pub mod WantLaws
 pub mod Reading
 pub mod NetPrinting

@@ -1,5 +1,5 @@
--- The code's tokens, as the definitions see them.
-use Rattle.std.specs.Prelude.{List, []}
+-- The code's tokens and names, as the definitions see them.
+use Rattle.std.specs.Prelude.{List, [], map}
 use Rattle.std.specs.Option.{option_map}
 use Rattle.ff_text.specs.declared.token.Token.{Token as Borrowed}
 use Rattle.ff_text.specs.declared.token.Token.TheVariants.{Word as BorrowedWord, Number as BorrowedNumber, Sign as BorrowedSign, Quoted as BorrowedQuoted, Bad as BorrowedBad, Stop as BorrowedStop}
@@ -7,6 +7,10 @@ use Rattle.ff_text.specs.declared.token.Spot.{Spot as BorrowedSpot}
 use Rattle.ff_text.specs.declared.lexeme.Lexeme.{Lexeme as BorrowedLexeme}
 use Rattle.ff_text.specs.Tokens.{Token, Word, Number, Sign, Quoted, Bad, Stop, Spot}
 use Rattle.ff_text.specs.Cutting.{Lexeme}
+use Rattle.ff_net.specs.Tree.{tree_of}
+use Rattle.ff_text.specs.declared.context.Context.{Context as OwnedContext}
+use Rattle.ff_text.specs.declared.named_net.NamedNet.{NamedNet}
+use Rattle.ff_text.specs.Names.{Name, Context}
 
 -- what a token is
 abbrev pub token_of : Borrowed → Token
@@ -29,3 +33,11 @@ seen lexeme = record { token = option_map token_of lexeme.token; more = lexeme.m
 abbrev pub behind : Token → List Spot → List Spot
 behind Stop spots = []
 behind _ spots = spots
+
+-- a word and its network
+abbrev pub name_of : NamedNet → Name
+name_of named = record { word = named.word.items; net = tree_of named.net }
+
+-- a version and its names
+abbrev pub context_of : OwnedContext → Context
+context_of context = record { version = context.version; names = map name_of context.names.items }

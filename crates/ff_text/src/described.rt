@@ -6,12 +6,14 @@ ghost use Rattle.ff_text.specs.Faults.{text_of};
 ghost use Rattle.ff_text.specs.Grammar.{IsNet};
 ghost use Rattle.ff_text.specs.Printing.{tokens_of};
 ghost use Rattle.ff_text.specs.Reading.{IsStopped, IsReadFault};
+ghost use Rattle.ff_text.specs.Seen.{context_of};
 ghost use Rattle.ff_text.specs.Tokens.{Stop};
 ghost use Rattle.ff_text.specs.Wants.{Finish};
 
 #[cfg(test)]
 mod tests;
 
+use crate::context::Context;
 use crate::network::network;
 use crate::piece::refused;
 use crate::{ReadFault, Reader, TextKind, Token};
@@ -46,9 +48,10 @@ pub fn read_net(alloc: Global, text: &[u8]) -> Result<Described, ReadFault>
             kind: TextKind::TooLong,
         });
     }
+    let context = Context::new(alloc, Version::One);
     let mut reader = Reader::new(text);
-    let net = network(alloc, MOST_FORMS, &mut reader)?;
-    finish(&mut reader)?;
+    let net = network(alloc, &context, MOST_FORMS, &mut reader)?;
+    finish(&context, &mut reader)?;
     Ok(Described {
         version: Version::One,
         net,
@@ -56,13 +59,13 @@ pub fn read_net(alloc: Global, text: &[u8]) -> Result<Described, ReadFault>
 }
 
 // The end of the text.
-fn finish(reader: &mut Reader) -> Result<(), ReadFault>
-    ensures stopped { IfErr result (λ fault. IsStopped (Finish ∷ []) fault reader.old) }
+fn finish(context: &Context, reader: &mut Reader) -> Result<(), ReadFault>
+    ensures stopped { IfErr result (λ fault. IsStopped (context_of context.now) (Finish ∷ []) fault reader.old) }
     ensures text { OnOk result (tokens_of reader.old ≡ Stop ∷ []) }
 {
     let spot = reader.next();
     match spot.token {
         Token::Stop => Ok(()),
-        _ => Err(refused(spot)),
+        _ => Err(refused(context.version, spot)),
     }
 }

@@ -5,6 +5,7 @@ ghost use Rattle.ff_text.specs.Leaves.{LeavesAreSpelled};
 ghost use Rattle.ff_text.specs.PrintedOperations.{PrintedOpIsRead, PrintedOpIsSpelling};
 ghost use Rattle.ff_text.specs.Printing.{PrintedIsCut};
 ghost use Rattle.ff_text.specs.PrintLaw.{PrintedNetsAreSpelled};
+ghost use Rattle.ff_text.specs.SpellingLaw.{SpellingIsOfOneNet};
 ghost use Rattle.ff_text.specs.WantLaws.{TextsAreTaken, StopsAreFaults};
 
 #[cfg(test)]
@@ -47,6 +48,12 @@ pub fn stops_are_first_faults()
 /// How many forms stand round one another in a network is its depth less one.
 pub fn forms_round_one_another_are_the_depth()
     ensures { RoomIsDepth }
+{}
+
+/// No two networks are spelled by the same tokens, their nodes' states left aside: each node is one before its first
+/// record.
+pub fn networks_spelled_alike_are_the_same()
+    ensures { SpellingIsOfOneNet }
 {}
 
 /// A printed network is cut into the tokens that spell it.

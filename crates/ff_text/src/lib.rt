@@ -1,7 +1,11 @@
 //! Texts of networks: how they are cut into tokens, which operations and networks they are, and how networks are printed.
 #![tactic(auto)]
 
+mod argument;
 mod class;
+mod context;
+mod copied;
+mod depth;
 mod described;
 mod fault;
 mod form;
@@ -9,20 +13,22 @@ mod laws;
 mod leaves;
 mod lexeme;
 mod mark;
+mod named_net;
 mod network;
 mod operation;
 mod piece;
 mod print;
 mod reader;
 mod token;
+mod word;
 
 pub use described::{Described, MOST_BYTES, read_net};
 pub use fault::{ReadFault, TextKind};
 pub use laws::{
     forms_round_one_another_are_the_depth, leaves_are_what_a_text_spells,
-    printed_networks_are_spelled, printed_operations_are_read, printed_pieces_are_cut_into_them,
-    stops_are_first_faults, texts_are_cut_from_the_front, texts_of_networks_are_taken,
-    texts_stop_at_their_end,
+    networks_spelled_alike_are_the_same, printed_networks_are_spelled, printed_operations_are_read,
+    printed_pieces_are_cut_into_them, stops_are_first_faults, texts_are_cut_from_the_front,
+    texts_of_networks_are_taken, texts_stop_at_their_end,
 };
 pub use leaves::{LeavesFault, read_leaves};
 pub use mark::Mark;

@@ -1,8 +1,9 @@
 use Rattle.std.proofs.Common.{◌≡◌, ◌∷◌, ◌++◌, ◌+◌, ◌*◌, length, List}
 use Rattle.ff_net.specs.Tree.{trees_of}
 use Rattle.ff_text.specs.Printing.{tokens_of}
-use Rattle.ff_text.specs.Wants.{Want, Network, Parts, walk}
-use Rattle.ff_text.proofs.Parts.{ArePartsSoFar, so_far, left}
+use Rattle.ff_text.specs.Seen.{context_of}
+use Rattle.ff_text.specs.Wants.{Want, Network, Parts, walk_in}
+use Rattle.ff_text.proofs.Parts.{ArePartsSoFar, SpellsSoFar, left}
 use Rattle.ff_text.proofs.network.+networks.Given as goal
 
 abbrev pub decreases-network : goal.decreases-network
@@ -29,9 +30,9 @@ decreases-formed l = 5 * l.room + 4
 -- what was taken are the first parts; where no other follows, all
 abbrev pub invariant-parts-loop-more : goal.invariant-parts-loop-more
 invariant-parts-loop-more l = record {
-  eaten : (ws : List Want) → walk l.initial.reader (Network l.room ∷ Parts l.room ∷ ws) ≡ walk l.reader (left l.more l.room ++ ws);
+  eaten : (ws : List Want) → walk_in (context_of l.context) l.initial.reader (Network l.room ∷ Parts l.room ∷ ws) ≡ walk_in (context_of l.context) l.reader (left l.more l.room ++ ws);
   nets : ArePartsSoFar l.more (trees_of l.parts.items) l.room;
-  text : tokens_of l.initial.reader ≡ so_far l.more (trees_of l.parts.items) ++ tokens_of l.reader;
+  text : SpellsSoFar (context_of l.context).names l.more (trees_of l.parts.items) (tokens_of l.initial.reader) (tokens_of l.reader);
 }
 
 abbrev pub decreases-parts-loop-more : goal.decreases-parts-loop-more

@@ -1,0 +1,64 @@
+// What marks and words of a text may mean.
+ghost use Rattle.std.specs.Prelude.{◌≡◌, [], ◌∷◌, ◌++◌, map, IfSome, OnOk, MatchOption, Some, None};
+ghost use Rattle.ff_net.specs.Tree.{tree_of};
+ghost use Rattle.ff_text.specs.Grammar.{IsNet};
+ghost use Rattle.ff_text.specs.Names.{net_named, AreNets};
+ghost use Rattle.ff_text.specs.Seen.{name_of, context_of};
+
+use crate::named_net::NamedNet;
+use ff_net::{Net, Version};
+use ff_ops::OpNode;
+use ff_rec::NoMemory;
+use std::alloc::Global;
+
+/// The version of a text, and the names that stand for networks in it.
+#[derive(Drop)]
+pub(crate) struct Context {
+    pub(crate) version: Version,
+    names: Vec<NamedNet>,
+}
+
+impl Context {
+    /// No word stands for a network yet.
+    pub(crate) fn new(alloc: Global, version: Version) -> Context
+        ensures { context_of result ≡ record { version = version; names = [] } }
+    {
+        Context {
+            version,
+            names: Vec::new(alloc),
+        }
+    }
+
+    /// The network of a word.
+    pub(crate) fn net(&self, word: &[u8]) -> Option<&Net<OpNode>>
+        requires { AreNets (context_of self.now).names }
+        ensures found { MatchOption result (net_named (context_of self.now).names word.now ≡ None) (λ net. net_named (context_of self.now).names word.now ≡ Some (tree_of net.now)) }
+        ensures fits { IfSome result (λ net. IsNet (tree_of net.now) 15) }
+    {
+        net_of(&self.names, word)
+    }
+
+    /// Lets a word stand for a network, where no earlier name has this word.
+    pub(crate) fn name(&mut self, named: NamedNet) -> Result<(), NoMemory>
+        ensures version { self.new.version ≡ self.old.version }
+        ensures names { OnOk result ((context_of self.new).names ≡ (context_of self.old).names ++ name_of named ∷ []) }
+        ensures nets { AreNets (context_of self.old).names → IsNet (tree_of named.net) 15 → OnOk result (AreNets (context_of self.new).names) }
+    {
+        self.names.push(named)?;
+        Ok(())
+    }
+}
+
+// The network of a word among these names.
+fn net_of<'a>(names: &'a [NamedNet], word: &[u8]) -> Option<&'a Net<OpNode>>
+    requires { AreNets (map name_of names.now) }
+    ensures found { MatchOption result (net_named (map name_of names.now) word.now ≡ None) (λ net. net_named (map name_of names.now) word.now ≡ Some (tree_of net.now)) }
+    ensures fits { IfSome result (λ net. IsNet (tree_of net.now) 15) }
+{
+    for named in names {
+        if named.word.as_slice() == word {
+            return Some(&named.net);
+        }
+    }
+    None
+}
