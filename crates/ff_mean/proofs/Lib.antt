@@ -1,0 +1,9 @@
+pub mod Lines
+pub mod NodeSteps
+pub mod Sorting
+pub mod LevelSteps
+pub mod RoundSteps
+pub mod RoundLaws
+pub mod Workers
+pub mod PartSteps
+pub mod WholeNets

@@ -1,0 +1,4 @@
+pub mod Gathering
+pub mod Turning
+pub mod Rounds
+pub mod Runs
