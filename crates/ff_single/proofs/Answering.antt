@@ -1,0 +1,34 @@
+-- What is sent as an answer of a network.
+use Rattle.std.proofs.Common.{◌≡◌, ℕ, Bool, true, false, List, inr, sym}
+use Rattle.std.specs.Prelude.{Option}
+use Rattle.std.specs.Io.KnownBytes.{Consumes}
+use Rattle.ff_io.specs.Bytes.{AppendsPrefix}
+use Rattle.ff_rec.specs.Lines.{Rec, text}
+use Rattle.ff_rec.specs.Weights.{Same}
+use Rattle.ff_rec.proofs.WeightLaws.{Same-≡, Same-trans}
+use Rattle.ff_node.specs.Sends.{kept_of}
+use Rattle.ff_net.specs.Forms.{is_ordered}
+use Rattle.ff_net.specs.Meaning.{mean, Fine, SameInOrder, Answers}
+use Rattle.ff_mean.specs.Runs.{AreKept}
+use Rattle.ff_single.specs.Endings.{Job, HasBegun, records_of}
+use Rattle.ff_single.specs.Streams.{streams}
+
+-- equal lists are the same in any order
+SameInOrder-≡ : (ordered : Bool) (xs ys : List Rec) → ys ≡ xs → SameInOrder ordered xs ys
+SameInOrder-≡ true xs ys is = is
+SameInOrder-≡ false xs ys is = Same-≡ xs ys (sym is)
+
+-- what a network means is an answer of it
+pub Answers-mean : {N : Type 0} (j : Job N) (xs ys : List Rec) → Fine j.does j.tasks j.net xs → ys ≡ mean j.does j.tasks j.net xs → Answers j.does j.tasks j.net xs ys
+Answers-mean j xs ys fine is = record { fine = fine; same = SameInOrder-≡ (is_ordered j.net) (mean j.does j.tasks j.net xs) ys is }
+
+-- of the text of an answer a prefix was taken
+pub HasBegun-prefix : {N : Type 0} (j : Job N) (l m : Option (List ℕ)) (ended : Bool) (f g : ℕ) (t u : Option (List ℕ)) (got : List ℕ) (ys : List Rec) → Consumes l m got
+    → Answers j.does j.tasks j.net (records_of j (streams l m ended f g t u) got) ys → AppendsPrefix t u (text ys) → HasBegun j (streams l m ended f g t u)
+HasBegun-prefix j l m ended f g t u got ys read answers some =
+    record { got = got; reads = read; front = some.front; begins = inr (ys, some.back, answers, sym some.splits); writes = some.appends }
+
+-- the rejects that are kept of those of a node
+pub AreKept-kept_of : (keep : Bool) (losses rejects kept : List Rec) → Same losses rejects → kept ≡ kept_of keep rejects → AreKept keep losses kept
+AreKept-kept_of true losses rejects kept same is = record { all = λ e. Same-trans same (Same-≡ rejects kept (sym is)); none = λ e. absurd (cc) }
+AreKept-kept_of false losses rejects kept same is = record { all = λ e. absurd (cc); none = λ e. is }

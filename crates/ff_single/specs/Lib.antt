@@ -1,0 +1,5 @@
+pub mod Streams
+pub mod Endings
+pub mod Reads
+pub mod Writes
+pub mod Flows
