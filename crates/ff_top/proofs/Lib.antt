@@ -1,4 +1,9 @@
 pub mod Saying
-pub mod Lines
+pub mod PlaceTexts
 pub mod Limited
+pub mod SameText
+pub mod LongFiles
+pub mod Accepted
+pub mod Finished
+pub mod Executed
 pub mod Calls

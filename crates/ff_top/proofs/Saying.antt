@@ -1,6 +1,7 @@
 -- Pieces that a sink takes one behind another.
-use Rattle.std.proofs.Common.{◌≡◌, ℕ, List, [], ◌++◌, Option, None, Some, refl, sym, ap, ◌∙◌, append_assoc, append-nil}
+use Rattle.std.proofs.Common.{ℕ, List, [], ◌++◌, Option, None, Some, refl, sym, ap, ◌∙◌, append_assoc, append-nil}
 use Rattle.std.specs.Io.KnownBytes.{Appends}
+use Rattle.std.specs.Prelude.{Result, Ok, Err, OnOk}
 use Rattle.std.proofs.KnownBytes.{Appends-trans}
 use Rattle.std.proofs.lemmas.Grind.{common_steps}
 use Rattle.ff_io.specs.Bytes.{AppendsPrefix}
@@ -32,3 +33,8 @@ AppendsPrefix-nothing taken bytes = record { front = []; back = bytes; splits = 
     Appends-nothing (Some bytes) = sym (append-nil bytes)
 
 pub ruleset saying_steps = (common_steps, AppendsPrefix-more, AppendsPrefix-then)
+
+-- a piece behind another
+pub OnOk-then : {A E : Type 0} (r : Result A E) (a b c : Option (List ℕ)) (xs ys : List ℕ) → Appends a b xs → OnOk r (Appends b c ys) → OnOk r (Appends a c (xs ++ ys))
+OnOk-then (Ok x) a b c xs ys whole h = Appends-trans a b c xs ys whole h
+OnOk-then (Err e) a b c xs ys whole h = tt

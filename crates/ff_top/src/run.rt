@@ -1,79 +1,102 @@
-// Operations over the records of an input.
-ghost use Rattle.std.specs.Prelude.{◌≡◌, ◌<◌, ◌≤◌, [], ◌∷◌, length};
-ghost use Rattle.ff_top.specs.Endings.{Ran, ending_of, scene, CountsInput, output_count};
+// A network over the records of the input.
+ghost use Rattle.std.specs.Prelude.{◌≡◌, is_some};
+ghost use Rattle.ff_net.specs.Tree.{tree_of};
+ghost use Rattle.ff_single.specs.Endings.{Ran as RanOver, CountsInput as CountsRead, output_count as write_count, job};
+ghost use Rattle.ff_single.specs.Streams.{streams};
+ghost use Rattle.ff_ops.specs.Operation.{op_node};
+ghost use Rattle.ff_top.specs.Endings.{CountsInput, files_count, output_count};
+ghost use Rattle.ff_top.specs.Finishing.{Finished};
+ghost use Rattle.ff_top.specs.Jobs.{Ran, run_job};
+ghost use Rattle.ff_top.specs.Outside.{outside, scene};
+ghost use Rattle.ff_top.specs.Texts.{version};
 
 use crate::fault::Fault;
-use ff_io::{Sink, Source};
-use ff_node::Comb;
-use ff_node::laws::comb_is_composition;
+use crate::rejects::store_rejects;
+use ff_io::{Files, Sink, Source};
+use ff_net::Checked;
 use ff_ops::OpNode;
-use ff_stream::{Report, StreamFault, run_stream};
+use ff_single::{Report, RunFault, run_flowing, run_whole};
+use ff_words::Text;
 use std::alloc::Global;
 
-/// The most bytes of a line, its newline not counted.
-const LINE_LIMIT: usize = 65_536;
+/// How a network is to be run.
+#[derive(Drop)]
+pub struct Order {
+    /// The most tasks of a wrap.
+    pub tasks: u64,
+    /// The whole input is read first.
+    pub one: bool,
+    /// The file for the rejected records.
+    pub rejects: Option<Text>,
+}
 
-/// Runs operations, each fed with what the one before it sends. The answer is how many records they rejected.
-pub fn run<I: Source, O: Sink>(
+/// Runs a network. The answer is how many records its nodes rejected.
+pub fn run<F: Files, I: Source, O: Sink>(
     alloc: Global,
-    mut nodes: Vec<OpNode>,
+    checked: &Checked<OpNode>,
+    order: Order,
+    files: &mut F,
     input: &mut I,
     out: &mut O,
 ) -> Result<u64, Fault>
-    requires some { 0 < length nodes.items }
-    requires few { length nodes.items ≤ 64 }
-    ensures ran { Ran (scene (I.left input.old) (I.left input.new) (I.ended input.new) (O.taken out.old) (O.taken out.new)) nodes.items result }
+    requires { checked.now.version ≡ version }
+    ensures ran { Ran (run_job (tree_of checked.now.net) order.tasks order.rejects) order.rejects
+        (scene (outside (F.told files.old) (F.faults files.old) (I.left input.old) (I.faults input.old) (O.taken out.old) (O.faults out.old))
+        (outside (F.told files.new) (F.faults files.new) (I.left input.new) (I.faults input.new) (O.taken out.new) (O.faults out.new)) (I.ended input.new)) result }
+    ensures files_faults { F.faults files.new ≡ files_count (F.faults files.old) result }
     ensures input_faults { CountsInput (I.faults input.old) (I.faults input.new) result }
     ensures output_faults { O.faults out.new ≡ output_count (O.faults out.old) result }
 {
-    match nodes.len() {
-        // A comb round one operation would take two blocks more for each record.
-        1 => match nodes.pop() {
-            Some(node) => run_alone(alloc, node, input, out),
-            None => unreachable!(),
-        },
-        _ => run_comb(alloc, nodes, input, out),
+    let keep = order.rejects.is_some();
+    let answer = run_over(alloc, checked, order.tasks, order.one, keep, input, out);
+    finish(alloc, order.tasks, order.rejects, files, answer)
+}
+
+// Runs it in the way that is asked for.
+fn run_over<I: Source, O: Sink>(
+    alloc: Global,
+    checked: &Checked<OpNode>,
+    tasks: u64,
+    one: bool,
+    keep: bool,
+    input: &mut I,
+    out: &mut O,
+) -> Result<Report, RunFault>
+    ensures run { RanOver (job op_node (tree_of checked.now.net) checked.now.version tasks keep)
+        (streams (I.left input.old) (I.left input.new) (I.ended input.new) (I.faults input.old) (I.faults input.new) (O.taken out.old) (O.taken out.new)) result }
+    ensures input_faults { CountsRead (I.faults input.old) (I.faults input.new) result }
+    ensures output_faults { O.faults out.new ≡ write_count (O.faults out.old) result }
+{
+    if one {
+        run_whole(alloc, checked, tasks, keep, input, out)
+    } else {
+        run_flowing(alloc, checked, tasks, keep, input, out)
     }
 }
 
-fn run_alone<I: Source, O: Sink>(
+// Stores the rejected records of a run that came to an end, and tells how it ended.
+fn finish<F: Files>(
     alloc: Global,
-    node: OpNode,
-    input: &mut I,
-    out: &mut O,
+    tasks: u64,
+    rejects: Option<Text>,
+    files: &mut F,
+    answer: Result<Report, RunFault>,
 ) -> Result<u64, Fault>
-    ensures ran { Ran (scene (I.left input.old) (I.left input.new) (I.ended input.new) (O.taken out.old) (O.taken out.new)) (node ∷ []) result }
-    ensures input_faults { CountsInput (I.faults input.old) (I.faults input.new) result }
-    ensures output_faults { O.faults out.new ≡ output_count (O.faults out.old) result }
-{
-    ending(run_stream(alloc, node, LINE_LIMIT, false, input, out))
-}
-
-fn run_comb<I: Source, O: Sink>(
-    alloc: Global,
-    nodes: Vec<OpNode>,
-    input: &mut I,
-    out: &mut O,
-) -> Result<u64, Fault>
-    requires some { 0 < length nodes.items }
-    requires few { length nodes.items ≤ 64 }
-    ensures ran { Ran (scene (I.left input.old) (I.left input.new) (I.ended input.new) (O.taken out.old) (O.taken out.new)) nodes.items result }
-    ensures input_faults { CountsInput (I.faults input.old) (I.faults input.new) result }
-    ensures output_faults { O.faults out.new ≡ output_count (O.faults out.old) result }
-{
-    comb_is_composition(&nodes[0]);
-    ending(run_stream(alloc, Comb::new(nodes), LINE_LIMIT, false, input, out))
-}
-
-// How a call ends whose run ended so.
-fn ending(answer: Result<Report, StreamFault>) -> Result<u64, Fault>
-    ensures { result ≡ ending_of answer }
+    ensures ends { Finished tasks rejects answer (F.told files.old) (F.told files.new) result }
+    ensures counts { F.faults files.new ≡ files_count (F.faults files.old) result }
 {
     match answer {
-        Ok(report) => Ok(report.rejected),
-        Err(StreamFault::Write) => Err(Fault::Write),
-        Err(StreamFault::Read(report)) => Err(Fault::Read(report.rejected)),
-        Err(StreamFault::Line(fault, report)) => Err(Fault::Line(fault, report.rejected)),
-        Err(StreamFault::NoMemory) => Err(Fault::NoMemory),
+        Ok(report) => store_rejects(alloc, files, rejects, report),
+        Err(RunFault::Tasks) => Err(Fault::Tasks(tasks)),
+        Err(RunFault::Write) => Err(Fault::Write),
+        Err(RunFault::Read(report)) => {
+            let rejected = store_rejects(alloc, files, rejects, report)?;
+            Err(Fault::Read(rejected))
+        }
+        Err(RunFault::Line(fault, report)) => {
+            let rejected = store_rejects(alloc, files, rejects, report)?;
+            Err(Fault::Line(fault, rejected))
+        }
+        Err(RunFault::NoMemory) => Err(Fault::NoMemory),
     }
 }

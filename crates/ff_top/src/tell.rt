@@ -6,6 +6,7 @@ ghost use Rattle.ff_io.specs.Faults.{HasCause};
 ghost use Rattle.ff_top.specs.Messages.{message, rejected_by, rejected_line, said, Tells};
 
 use crate::fault::Fault;
+use crate::message::write_message;
 use ff_io::{Failed, Sink, write_all};
 use itoa::Buffer;
 
@@ -25,9 +26,9 @@ pub fn write_three<E: Sink>(
     write_all(sink, third)
 }
 
-// Writes two pieces, one behind the other.
+/// Writes two pieces, one behind the other.
 #[tactic(auto, using(crate::proofs::Saying::saying_steps))]
-fn write_two<E: Sink>(sink: &mut E, first: &[u8], second: &[u8]) -> Result<(), Failed>
+pub fn write_two<E: Sink>(sink: &mut E, first: &[u8], second: &[u8]) -> Result<(), Failed>
     ensures all { OnOk result (Appends (E.taken sink.old) (E.taken sink.new) (first.now ++ second.now)) }
     ensures prefix { AppendsPrefix (E.taken sink.old) (E.taken sink.new) (first.now ++ second.now) }
     ensures cause { HasCause (E.faults sink.old) (E.faults sink.new) result }
@@ -68,6 +69,6 @@ fn say<E: Sink>(fault: &Fault, sink: &mut E) -> Result<(), Failed>
     ensures prefix { AppendsPrefix (E.taken sink.old) (E.taken sink.new) (message fault.now ++ rejected_line (rejected_by fault.now)) }
     ensures cause { HasCause (E.faults sink.old) (E.faults sink.new) result }
 {
-    fault.write_message(sink)?;
+    write_message(fault, sink)?;
     write_rejected(sink, fault.rejected())
 }

@@ -5,9 +5,16 @@ use std::alloc::Global;
 use std::process::Abort;
 use std::test::Fail;
 
+mod counting;
+mod descriptions;
+mod feedback;
 mod limits;
+mod networks;
 mod operations;
 mod outside;
+mod rec_calls;
+mod rejects;
+mod rules;
 mod texts;
 mod words;
 
@@ -47,6 +54,46 @@ struct Want<'a> {
     err: &'a [u8],
 }
 
+// What a call answered, what its sinks took, and its files afterwards.
+#[derive(Drop)]
+struct Answer {
+    status: u8,
+    out: MemSink,
+    err: MemSink,
+    files: MemFiles,
+}
+
+// Makes the call.
+fn call(
+    rt: &impl Abort,
+    alloc: Global,
+    words: &[&str],
+    input: &[u8],
+    by: Devices,
+) -> Result<Answer, Fail> {
+    assert!(rt; 1 <= by.most && 1 <= by.short);
+    let mut files = make_files(alloc, by)?;
+    let bytes = Vec::from_slice(alloc, input)?;
+    let mut source = MemSource::new(bytes, by.most, vec![in alloc; by.fails]?);
+    let mut out = ShortSink::new(MemSink::new(alloc, by.out, Vec::new(alloc))?, by.short);
+    let mut err = MemSink::new(alloc, by.err, Vec::new(alloc))?;
+    let words = make_words(alloc, words)?;
+    let status = ffrun(alloc, &words, &mut files, &mut source, &mut out, &mut err);
+    Ok(Answer {
+        status,
+        out: out.into_inner(),
+        err,
+        files,
+    })
+}
+
+// Compares what a call answered and what its sinks took.
+fn compare(rt: &impl Abort, words: &[&str], answer: &Answer, want: Want) {
+    assert_eq!(rt; answer.status, want.status, "{words:?}");
+    assert_eq!(rt; answer.out.taken(), want.out, "out, {words:?}");
+    assert_eq!(rt; answer.err.taken(), want.err, "err, {words:?}");
+}
+
 // Makes the call and compares.
 fn check(
     rt: &impl Abort,
@@ -56,19 +103,43 @@ fn check(
     by: Devices,
     want: Want,
 ) -> Result<(), Fail> {
-    assert!(rt; 1 <= by.most && 1 <= by.short);
-    let mut files = make_files(alloc, by)?;
-    let bytes = Vec::from_slice(alloc, input)?;
-    let mut source = MemSource::new(bytes, by.most, vec![in alloc; by.fails]?);
-    let mut out = ShortSink::new(MemSink::new(alloc, by.out, Vec::new(alloc))?, by.short);
-    let mut err = MemSink::new(alloc, by.err, Vec::new(alloc))?;
-    let words = make_words(alloc, words)?;
-    let status = ffrun(alloc, &words, &mut files, &mut source, &mut out, &mut err);
-    let out = out.into_inner();
-    assert_eq!(rt; status, want.status, "{words:?}");
-    assert_eq!(rt; out.taken(), want.out, "out, {words:?}");
-    assert_eq!(rt; err.taken(), want.err, "err, {words:?}");
+    let answer = call(rt, alloc, words, input, by)?;
+    compare(rt, words, &answer, want);
     Ok(())
+}
+
+// The same, where the lines of the output may come in any order.
+fn check_lines(
+    rt: &impl Abort,
+    alloc: Global,
+    words: &[&str],
+    input: &[u8],
+    by: Devices,
+    want: Want,
+) -> Result<(), Fail> {
+    let answer = call(rt, alloc, words, input, by)?;
+    assert_eq!(rt; answer.status, want.status, "{words:?}");
+    let lines = sorted_lines(alloc, answer.out.taken())?;
+    assert_eq!(rt; lines, sorted_lines(alloc, want.out)?, "out, {words:?}");
+    assert_eq!(rt; answer.err.taken(), want.err, "err, {words:?}");
+    Ok(())
+}
+
+// The lines of a text in byte order. Behind its last newline stands one more, which is empty.
+fn sorted_lines(alloc: Global, text: &[u8]) -> Result<Vec<Vec<u8>>, Fail> {
+    let mut lines = Vec::new(alloc);
+    let mut line = Vec::new(alloc);
+    for byte in text {
+        if *byte == b'\n' {
+            lines.push(line)?;
+            line = Vec::new(alloc);
+        } else {
+            line.push(*byte)?;
+        }
+    }
+    lines.push(line)?;
+    lines.sort()?;
+    Ok(lines)
 }
 
 fn make_files(alloc: Global, by: Devices) -> Result<MemFiles, Fail> {

@@ -1,58 +1,69 @@
-// The operations of the text that a command is given.
-ghost use Rattle.std.specs.Prelude.{◌≡◌, ◌≤◌, ◌<◌, Some, length, IfOk, IfErr, OnOk};
+// The network of the text that a command is given.
+ghost use Rattle.std.specs.Prelude.{◌≡◌, IfOk, IfErr};
 ghost use Rattle.ff_io.specs.Files.{KeepsAll};
-ghost use Rattle.ff_text.specs.Leaves.{leaves};
+ghost use Rattle.ff_net.specs.Tree.{tree_of};
 ghost use Rattle.ff_top.specs.Endings.{files_count};
-ghost use Rattle.ff_top.specs.Texts.{IsGiven, IsGivenFault, IsTextFault, text_limit};
+ghost use Rattle.ff_top.specs.Parts.{IsGivenFault, IsRuleFault, IsSpelledFault};
+ghost use Rattle.ff_top.specs.Texts.{IsGiven, IsSpelled, KeepsRules, version};
 
 use crate::fault::Fault;
 use ff_io::{FileFault, Files};
+use ff_net::{Checked, check};
 use ff_ops::OpNode;
-use ff_text::{LeavesFault, read_leaves};
+use ff_text::{Described, MOST_BYTES, ReadFault, TextKind, read_net};
 use ff_words::Given;
 use std::alloc::Global;
 
-/// The most bytes of a text.
-const TEXT_LIMIT: usize = 65_536;
-
-/// The operations of the text that is given, each before its first record.
+/// The network of the text that is given, which keeps all rules.
 pub fn read_given<F: Files>(
     alloc: Global,
     files: &mut F,
     given: Given,
-) -> Result<Vec<OpNode>, Fault>
-    ensures ok { IfOk result (λ nodes. IsGiven (F.told files.old) given nodes.items) }
-    ensures some { IfOk result (λ nodes. 0 < length nodes.items) }
-    ensures few { IfOk result (λ nodes. length nodes.items ≤ 64) }
+) -> Result<Checked<OpNode>, Fault>
+    ensures ok { IfOk result (λ checked. IsGiven (F.told files.old) given (tree_of checked.net)) }
+    ensures version { IfOk result (λ checked. checked.version ≡ version) }
     ensures fault { IfErr result (IsGivenFault (F.told files.old) given) }
     ensures keeps { KeepsAll (F.told files.old) (F.told files.new) }
     ensures counts { F.faults files.new ≡ files_count (F.faults files.old) result }
 {
     match given {
         Given::Text(text) => read_text(alloc, text.as_str().as_bytes()),
-        Given::File(name) => match files.load(name.as_str(), TEXT_LIMIT) {
+        Given::File(name) => match files.load(name.as_str(), MOST_BYTES) {
             Ok(text) => read_text(alloc, &text),
             Err(FileFault::Failed) => Err(Fault::File(name)),
-            Err(FileFault::TooLong) => Err(Fault::LongText),
+            Err(FileFault::TooLong) => Err(Fault::BadText {
+                at: MOST_BYTES,
+                kind: TextKind::TooLong,
+            }),
             Err(FileFault::NoMemory) => Err(Fault::NoMemory),
         },
     }
 }
 
-// The operations of a text, where it isn't too long.
-fn read_text(alloc: Global, text: &[u8]) -> Result<Vec<OpNode>, Fault>
-    ensures ok { IfOk result (λ nodes. leaves text.now ≡ Some nodes.items) }
-    ensures short { OnOk result (length text.now ≤ text_limit) }
-    ensures some { IfOk result (λ nodes. 0 < length nodes.items) }
-    ensures few { IfOk result (λ nodes. length nodes.items ≤ 64) }
-    ensures fault { IfErr result (IsTextFault text.now) }
+// The network of a text.
+fn read_text(alloc: Global, text: &[u8]) -> Result<Checked<OpNode>, Fault>
+    ensures spelled { IfOk result (λ checked. IsSpelled text.now (tree_of checked.net)) }
+    ensures kept { IfOk result (λ checked. KeepsRules (tree_of checked.net)) }
+    ensures version { IfOk result (λ checked. checked.version ≡ version) }
+    ensures fault { IfErr result (IsSpelledFault text.now) }
 {
-    if text.len() > TEXT_LIMIT {
-        return Err(Fault::LongText);
+    match read_net(alloc, text) {
+        Ok(described) => check_rules(described),
+        Err(ReadFault::Text { at, kind }) => Err(Fault::BadText { at, kind }),
+        Err(ReadFault::NoMemory) => Err(Fault::NoMemory),
     }
-    match read_leaves(alloc, text) {
-        Ok(nodes) => Ok(nodes),
-        Err(LeavesFault::Other) => Err(Fault::NotBuilt),
-        Err(LeavesFault::NoMemory) => Err(Fault::NoMemory),
+}
+
+// A network that keeps all rules.
+fn check_rules(described: Described) -> Result<Checked<OpNode>, Fault>
+    requires { described.version ≡ version }
+    ensures net { IfOk result (λ checked. checked.net ≡ described.net) }
+    ensures kept { IfOk result (λ checked. KeepsRules (tree_of checked.net)) }
+    ensures version { IfOk result (λ checked. checked.version ≡ version) }
+    ensures fault { IfErr result (IsRuleFault (tree_of described.net)) }
+{
+    match check(described.net, described.version) {
+        Ok(checked) => Ok(checked),
+        Err(fault) => Err(Fault::BrokenRule(fault)),
     }
 }

@@ -84,7 +84,23 @@ fn a_failing_err_changes_no_status(rt: HostRuntime) -> Result<(), Fail> {
                 b"ffrun: 1 rejected\n".as_slice(),
             ),
             ("walk", "add 1 1", b"", 1, b"", USAGE),
-            ("check", "id", b"", 2, b"", NOT_BUILT),
+            ("plan", "id", b"", 2, b"", NOT_BUILT),
+            (
+                "check",
+                "id id",
+                b"",
+                2,
+                b"",
+                b"ffrun: byte 3: unexpected token\n",
+            ),
+            (
+                "run",
+                "farm 0 rr (id)",
+                b"",
+                2,
+                b"",
+                b"ffrun: rule N3 at top\n",
+            ),
         ] {
             let want = Want {
                 status,

@@ -50,14 +50,12 @@ fn commands_that_are_not_built(rt: HostRuntime) -> Result<(), Fail> {
         err: NOT_BUILT,
     };
     for words in [
-        ["check", "id"].as_slice(),
-        &["plan", "id"],
+        ["plan", "id"].as_slice(),
         &["mdf", "a = copy 1; out a"],
         &["dc", "fib", "10"],
         &["soak", "3"],
-        &["run", "--rejects", "bad.txt", "id"],
         // It isn't read, though the file isn't there.
-        &["check", "-f", "other.txt"],
+        &["plan", "-f", "other.txt"],
     ] {
         check(&rt, rt.alloc(), words, b"1\n", SOUND, want)?;
     }

@@ -1,0 +1,49 @@
+// The file for the rejected records.
+ghost use Rattle.std.specs.Prelude.{◌≡◌, IfOk, IfErr, OnOk};
+ghost use Rattle.ff_rec.specs.Lines.{text};
+ghost use Rattle.ff_top.specs.Endings.{files_count};
+ghost use Rattle.ff_top.specs.Jobs.{KeepsBut, Stored};
+ghost use Rattle.ff_top.specs.Parts.{IsStoreFault};
+
+use crate::fault::Fault;
+use ff_io::{Files, StoreFault};
+use ff_node::Records;
+use ff_rec::{NoMemory, print_record};
+use ff_single::Report;
+use ff_words::Text;
+use std::alloc::Global;
+
+/// Stores the rejected records, where a file is named for them, and answers how many there were.
+pub fn store_rejects<F: Files>(
+    alloc: Global,
+    files: &mut F,
+    rejects: Option<Text>,
+    report: Report,
+) -> Result<u64, Fault>
+    ensures number { IfOk result (λ n. n ≡ report.rejected) }
+    ensures stored { OnOk result (Stored rejects report.refused (F.told files.old) (F.told files.new)) }
+    ensures fault { IfErr result (IsStoreFault rejects report.rejected) }
+    ensures keeps { KeepsBut rejects (F.told files.old) (F.told files.new) }
+    ensures counts { F.faults files.new ≡ files_count (F.faults files.old) result }
+{
+    let Some(name) = rejects else {
+        return Ok(report.rejected);
+    };
+    let text = text_of(alloc, report.refused)?;
+    match files.store(name.as_str(), &text) {
+        Ok(()) => Ok(report.rejected),
+        Err(StoreFault::Failed) => Err(Fault::Rejects(name, report.rejected)),
+        Err(StoreFault::NoMemory) => Err(Fault::NoMemory),
+    }
+}
+
+// The text of these records.
+fn text_of(alloc: Global, mut records: Records) -> Result<Vec<u8>, NoMemory>
+    ensures { IfOk result (λ bytes. bytes.items ≡ text records) }
+{
+    let mut bytes = Vec::new(alloc);
+    while let Some(r) = records.take_first() {
+        print_record(&r, &mut bytes)?;
+    }
+    Ok(bytes)
+}
