@@ -45,7 +45,8 @@ pub fn run_whole<N: Node, I: Source, O: Sink>(
 }
 
 /// The same; but where no wrap stands in the network, and it has at most 64 nodes one behind another, records are read in
-/// pieces and handed on as they come, so that memory doesn't grow with the input but for what folds hold.
+/// pieces and handed on as they come. Memory then grows with what folds hold and with the rejects that are kept, and not
+/// with the input.
 pub fn run_flowing<N: Node, I: Source, O: Sink>(
     alloc: Global,
     checked: &Checked<N>,

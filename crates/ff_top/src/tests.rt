@@ -8,6 +8,7 @@ use std::test::Fail;
 mod counting;
 mod descriptions;
 mod feedback;
+mod flowing;
 mod limits;
 mod networks;
 mod operations;
