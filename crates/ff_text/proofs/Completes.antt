@@ -15,10 +15,10 @@ use Rattle.ff_net.specs.declared.net.Route.TheVariants.{Rr as RouteRr, Od as Rou
 use Rattle.ff_text.specs.declared.fault.TextKind.TheVariants.{Range}
 use Rattle.ff_text.specs.declared.mark.Mark.TheVariants.{Open, Close}
 use Rattle.ff_text.specs.Tokens.{Token, Word, Sign}
-use Rattle.ff_text.specs.Leaves.{argument_token, IsNew}
+use Rattle.ff_text.specs.OperationTokens.{argument_token, IsNew}
 use Rattle.ff_text.specs.Grammar.{spelling, parts_spelling, behind_spelling, route_spelling, sched_word, count_token, fits, AllFit, a_count, IsCount, IsRoute, IsNet, AreParts, AreBehind}
 use Rattle.ff_text.specs.Wants.{Want, Network, Parts, Argument, Schedule, Routing, Opening, Closing, Condition, refused, begin_named, take_argument, expand, pushed, then_run, run}
-use Rattle.ff_text.proofs.Spelled.{argument-argument_token}
+use Rattle.ff_text.proofs.OperationTokens.{argument-argument_token}
 use Rattle.ff_text.proofs.OpParts.{IsNew-named, IsNew-AllFit}
 use Rattle.ff_text.proofs.Named.{form_named-row_named}
 

@@ -18,7 +18,7 @@ use Rattle.ff_text.specs.declared.mark.Mark.{Mark}
 use Rattle.ff_text.specs.declared.mark.Mark.TheVariants.{Open, Close, Comma, Semicolon}
 use Rattle.ff_text.specs.Tokens.{Token, Word, Number, Sign, Quoted, Bad, Stop, Spot}
 use Rattle.ff_text.specs.Printing.{tokens_of}
-use Rattle.ff_text.specs.Leaves.{argument_token, comparison}
+use Rattle.ff_text.specs.OperationTokens.{argument_token, comparison}
 use Rattle.ff_text.specs.Grammar.{form_word, form_named, a_count}
 use Rattle.ff_text.specs.Faults.{Begins, AwaitsNet, AwaitsNumber, IsBadByte, IsFormWord, IsUnknownWord, IsNumberToken, Means, Fault, IsFault}
 use Rattle.ff_text.specs.Wants.{Want, Network, Parts, Argument, Schedule, Routing, Opening, Closing, Condition, Finish, refused, begin_named, take_argument, is_sched, expand, pushed, step, then_walk, walk, start}

@@ -4,10 +4,8 @@ pub mod Stops
 pub mod Runs
 pub mod Lexemes
 pub mod Apart
-pub mod Pipes
 pub mod OpParts
-pub mod Spelled
-pub mod LeavesLaw
+pub mod OperationTokens
 pub mod Named
 pub mod OneNet
 pub mod Completes

@@ -24,7 +24,7 @@ use Rattle.ff_text.specs.declared.mark.Mark.TheVariants.{Open, Close, Comma}
 use Rattle.ff_text.specs.Tokens.{Token, Word, Number, Sign, Stop}
 use Rattle.ff_text.specs.Cutting.{tokens}
 use Rattle.ff_text.specs.Printing.{Piece, written, printed_text, IsPrintable, is_word, run_together, AreApart, tokens_of, pieces_of, PrintedIsCut}
-use Rattle.ff_text.specs.Leaves.{mark_of, argument_token}
+use Rattle.ff_text.specs.OperationTokens.{mark_of, argument_token}
 use Rattle.ff_text.specs.Grammar.{IsCount, IsRoute, IsNet, AreParts, AreBehind, spelling, parts_spelling, behind_spelling, route_spelling, sched_word, count_token}
 use Rattle.ff_text.specs.NetPrinting.{printed_net, printed_parts, printed_behind, printed_route}
 use Rattle.ff_text.specs.PrintLaw.{CanPrint, CanPrintAll, PrintedNetsAreSpelled}
@@ -414,8 +414,11 @@ apart-front (p ∷ []) [] h = h
 apart-front (p ∷ []) (q ∷ qs) h = h.0
 apart-front (p ∷ r ∷ ps) qs h = (h.0, h.1, apart-front (r ∷ ps) qs h.2)
 
-pub printed_nets_are_spelled : PrintedIsCut → PrintedNetsAreSpelled
-printed_nets_are_spelled cut t room net can =
+pub tokens_of-printed_net : PrintedIsCut → (t : Tree OpState) → Stands t → tokens_of (tokens (printed_net t)) ≡ spelling t ++ Stop ∷ []
+tokens_of-printed_net cut t stands =
     ap (λ bs. tokens_of (tokens bs)) (sym (ap printed_text (sym (append-nil (pieces false t))) ∙ printed-pieces false t [] ∙ append-nil (printed_net t)))
-    ∙ cut (pieces false t) (apart-front (pieces false t) (off (Sign Close) ∷ []) (apart false t false [] (Stands-net t room net can) tt))
+    ∙ cut (pieces false t) (apart-front (pieces false t) (off (Sign Close) ∷ []) (apart false t false [] stands tt))
     ∙ ap (λ ts. ts ++ Stop ∷ []) (pieces_of-pieces false t)
+
+pub printed_nets_are_spelled : PrintedIsCut → PrintedNetsAreSpelled
+printed_nets_are_spelled cut t room net can = tokens_of-printed_net cut t (Stands-net t room net can)

@@ -18,12 +18,12 @@ use Rattle.ff_text.specs.declared.form.Form.{Form}
 use Rattle.ff_text.specs.declared.form.Form.TheVariants.{Pipe as PipeForm, Comb as CombForm, Farm as FarmForm, OFarm as OFarmForm, A2a as A2aForm, Wrap as WrapForm}
 use Rattle.ff_text.specs.declared.mark.Mark.TheVariants.{Open, Close}
 use Rattle.ff_text.specs.Tokens.{Token, Word, Sign}
-use Rattle.ff_text.specs.Leaves.{argument_token, argument, IsNew, spelling as operation_spelling}
+use Rattle.ff_text.specs.OperationTokens.{argument_token, argument, IsNew, spelling as operation_spelling}
 use Rattle.ff_text.specs.Grammar.{form_named, spelling, parts_spelling, behind_spelling, route_spelling, sched_word, count_token, AllFit, IsNet, AreParts, AreBehind}
 use Rattle.ff_text.specs.SpellingLaw.{SpellingIsOfOneNet}
 use Rattle.ff_text.proofs.Named.{form_named-row_named}
 use Rattle.ff_text.proofs.OpParts.{IsNew-named, IsNew-AllFit}
-use Rattle.ff_text.proofs.Spelled.{argument-argument_token}
+use Rattle.ff_text.proofs.OperationTokens.{argument-argument_token}
 
 -- arguments of the same kinds
 argument_token-same : (a b : Arg) → argument_token a ≡ argument_token b → a ≡ b

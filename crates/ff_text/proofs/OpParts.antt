@@ -15,7 +15,7 @@ use Rattle.ff_ops.specs.declared.op.OpFault.{OpFault}
 use Rattle.ff_ops.specs.declared.op.OpFault.TheVariants.{UnknownOp, ArgCount, ArgKind as WrongKind, ArgRange}
 use Rattle.ff_ops.specs.declared.row.Row.{Row}
 use Rattle.ff_ops.specs.declared.row.TheConstants.{ROWS}
-use Rattle.ff_text.specs.Leaves.{IsNew}
+use Rattle.ff_text.specs.OperationTokens.{IsNew}
 use Rattle.ff_text.specs.Grammar.{AllFit}
 
 -- tests of which none fails

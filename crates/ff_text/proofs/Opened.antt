@@ -11,7 +11,7 @@ use Rattle.ff_net.specs.Tree.{Tree, Trees, Leaf, Pipe, Comb, Farm, OFarm, A2a, W
 use Rattle.ff_net.specs.declared.net.Net.{Net}
 use Rattle.ff_text.specs.Copies.{opened, all_opened}
 use Rattle.ff_text.specs.Grammar.{IsNet, AreParts, AreBehind}
-use Rattle.ff_text.specs.Leaves.{IsNew}
+use Rattle.ff_text.specs.OperationTokens.{IsNew}
 use Rattle.ff_text.proofs.OpParts.{IsNew-named, IsNew-AllFit, read_op-AllFit}
 
 -- what is read is before its first record

@@ -23,11 +23,11 @@ use Rattle.ff_text.specs.declared.form.Form.{Form}
 use Rattle.ff_text.specs.declared.form.Form.TheVariants.{Pipe as PipeForm, Comb as CombForm, Farm as FarmForm, OFarm as OFarmForm, A2a as A2aForm, Wrap as WrapForm}
 use Rattle.ff_text.specs.declared.mark.Mark.TheVariants.{Open, Close, Comma}
 use Rattle.ff_text.specs.Tokens.{Token, Word, Number, Sign, Stop}
-use Rattle.ff_text.specs.Leaves.{mark_of, argument_token, argument}
+use Rattle.ff_text.specs.OperationTokens.{mark_of, argument_token, argument}
 use Rattle.ff_text.specs.Grammar.{form_word, form_named, spelling, parts_spelling, behind_spelling, route_spelling, sched_word, count_token, fits, AllFit, a_count, IsCount, IsRoute, IsNet, AreParts, AreBehind}
 use Rattle.ff_text.specs.Faults.{text_of}
 use Rattle.ff_text.specs.Wants.{Want, Network, Parts, Argument, Schedule, Routing, Opening, Closing, Condition, Finish, rest_of, refused, begin_named, take_argument, is_sched, expand, pushed, then_run, run, start}
-use Rattle.ff_text.proofs.Spelled.{argument_token-argument}
+use Rattle.ff_text.proofs.OperationTokens.{argument_token-argument}
 use Rattle.ff_text.proofs.OpParts.{name_of-row_named, read_op-AllFit}
 use Rattle.ff_text.proofs.Named.{form_word-form_named}
 

@@ -5,7 +5,7 @@ use Rattle.ff_ops.specs.Operation.{OpState}
 use Rattle.ff_net.specs.Tree.{Tree, Trees, Leaf, Pipe, Comb, Farm, OFarm, A2a, Wrap, none, more}
 use Rattle.ff_text.specs.declared.mark.Mark.TheVariants.{Open, Close, Comma}
 use Rattle.ff_text.specs.Tokens.{Token, Word, Number, Sign}
-use Rattle.ff_text.specs.Leaves.{mark_of}
+use Rattle.ff_text.specs.OperationTokens.{mark_of}
 use Rattle.ff_text.specs.Grammar.{spelling, parts_spelling, behind_spelling, route_spelling, sched_word, count_token}
 use Rattle.ff_text.specs.Spelling.{Front, IsUse, MarksBehind, Spells, SpellsParts, SpellsBehind}
 

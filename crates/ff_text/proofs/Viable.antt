@@ -17,7 +17,7 @@ use Rattle.ff_text.specs.declared.form.Form.{Form}
 use Rattle.ff_text.specs.declared.form.Form.TheVariants.{Pipe as PipeForm, Comb as CombForm, Farm as FarmForm, OFarm as OFarmForm, A2a as A2aForm, Wrap as WrapForm}
 use Rattle.ff_text.specs.declared.mark.Mark.TheVariants.{Open, Close, Comma}
 use Rattle.ff_text.specs.Tokens.{Token, Word, Number, Sign, Stop}
-use Rattle.ff_text.specs.Leaves.{argument_token, argument}
+use Rattle.ff_text.specs.OperationTokens.{argument_token, argument}
 use Rattle.ff_text.specs.Grammar.{form_named, fits, a_count}
 use Rattle.ff_text.specs.Faults.{text_of, Begins}
 use Rattle.ff_text.specs.Wants.{Want, Network, Parts, Argument, Schedule, Routing, Opening, Closing, Condition, Finish, rest_of, refused, begin_named, take_argument, is_sched, expand, pushed, step, then_run, run, start}

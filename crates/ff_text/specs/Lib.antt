@@ -4,7 +4,7 @@ pub mod Cutting
 pub mod Seen
 pub mod Printing
 pub mod CutLaws
-pub mod Leaves
+pub mod OperationTokens
 pub mod Grammar
 pub mod SpellingLaw
 pub mod Faults

@@ -6,7 +6,7 @@ use Rattle.ff_ops.specs.Operation.{OpState}
 use Rattle.ff_net.specs.Tree.{Tree, Trees, Leaf, Pipe, Comb, Farm, OFarm, A2a, Wrap, none, more}
 use Rattle.ff_text.specs.Cutting.{tokens}
 use Rattle.ff_text.specs.Printing.{IsPrintable, tokens_of}
-use Rattle.ff_text.specs.Leaves.{argument_token}
+use Rattle.ff_text.specs.OperationTokens.{argument_token}
 use Rattle.ff_text.specs.Grammar.{IsNet}
 use Rattle.ff_text.specs.Faults.{text_of}
 use Rattle.ff_text.specs.NetPrinting.{printed_net}

@@ -5,7 +5,7 @@ use Rattle.ff_ops.specs.Table.{row_named}
 use Rattle.ff_net.specs.Tree.{Tree, Trees, Leaf, Pipe, Comb, Farm, OFarm, A2a, Wrap, none, more}
 use Rattle.ff_text.specs.declared.mark.Mark.TheVariants.{Open, Close, Comma}
 use Rattle.ff_text.specs.Tokens.{Token, Word, Number, Sign}
-use Rattle.ff_text.specs.Leaves.{mark_of, spelling as operation_spelling}
+use Rattle.ff_text.specs.OperationTokens.{mark_of, spelling as operation_spelling}
 use Rattle.ff_text.specs.Grammar.{form_named, sched_word, count_token, route_spelling}
 use Rattle.ff_text.specs.Names.{Name, net_named}
 

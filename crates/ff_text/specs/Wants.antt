@@ -20,7 +20,7 @@ use Rattle.ff_text.specs.declared.form.Form.{Form}
 use Rattle.ff_text.specs.declared.form.Form.TheVariants.{Pipe, Comb, Farm, OFarm, A2a, Wrap}
 use Rattle.ff_text.specs.declared.mark.Mark.TheVariants.{Open, Close, Comma, Less, AtMost, Equal, Unequal, AtLeast, Greater, Semicolon}
 use Rattle.ff_text.specs.Tokens.{Token, Word, Number, Sign, Quoted, Bad, Stop, Spot}
-use Rattle.ff_text.specs.Leaves.{argument}
+use Rattle.ff_text.specs.OperationTokens.{argument}
 use Rattle.ff_text.specs.Grammar.{form_named, a_count}
 use Rattle.ff_text.specs.Faults.{Fault}
 use Rattle.ff_text.specs.Names.{Context, net_named, one}

@@ -3,7 +3,7 @@ ghost use Rattle.std.specs.Prelude.{◌≡◌, [], ◌∷◌, IfOk, IsTrue, pos,
 ghost use Rattle.ff_ops.specs.Arguments.{is_numeric};
 ghost use Rattle.ff_ops.specs.declared.arg.Arg.TheVariants.{Num, Cmp as Compared};
 ghost use Rattle.ff_text.specs.Grammar.{fits, a_count, IsCount, count_token};
-ghost use Rattle.ff_text.specs.Leaves.{argument_token, mark_of};
+ghost use Rattle.ff_text.specs.OperationTokens.{argument_token, mark_of};
 ghost use Rattle.ff_text.specs.Printing.{tokens_of};
 ghost use Rattle.ff_text.specs.Reading.{IsEaten};
 ghost use Rattle.ff_text.specs.Seen.{context_of, token_of};
@@ -11,8 +11,8 @@ ghost use Rattle.ff_text.specs.Tokens.{Sign, Number};
 ghost use Rattle.ff_text.specs.Wants.{Argument, is_beyond};
 
 use crate::context::Context;
-use crate::leaves::argument;
 use crate::piece::refused;
+use crate::token_argument::argument;
 use crate::{ReadFault, Reader, TextKind, Token};
 use ff_node::Cmp;
 use ff_ops::{Arg, ArgKind};

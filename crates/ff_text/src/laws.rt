@@ -1,7 +1,6 @@
 // What holds of the words of this crate's contracts, whatever the call.
 ghost use Rattle.ff_text.specs.CutLaws.{CutsFrontFirst, StopsAtItsEnd};
 ghost use Rattle.ff_text.specs.DepthLaw.{RoomIsDepth};
-ghost use Rattle.ff_text.specs.Leaves.{LeavesAreSpelled};
 ghost use Rattle.ff_text.specs.PrintedOperations.{PrintedOpIsRead, PrintedOpIsSpelling};
 ghost use Rattle.ff_text.specs.Printing.{PrintedIsCut};
 ghost use Rattle.ff_text.specs.PrintLaw.{PrintedNetsAreSpelled};
@@ -29,11 +28,6 @@ pub fn printed_pieces_are_cut_into_them()
 {
     printed_numbers_are_read();
 }
-
-/// The operations of a text are those that it spells, alone or as a pipe.
-pub fn leaves_are_what_a_text_spells()
-    ensures { LeavesAreSpelled }
-{}
 
 /// What spells a network is taken where a network is wanted.
 pub fn texts_of_networks_are_taken()
@@ -63,7 +57,7 @@ pub fn printed_networks_are_spelled()
     printed_pieces_are_cut_into_them();
 }
 
-/// What is printed of an operation is read as that one operation, where no text among its arguments holds a quote.
+/// What is printed of an operation spells it alone, as a network, where no text among its arguments holds a quote.
 pub fn printed_operations_are_read()
     ensures tokens { PrintedOpIsSpelling }
     ensures read { PrintedOpIsRead }

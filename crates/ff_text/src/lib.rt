@@ -1,4 +1,4 @@
-//! Texts of networks: how they are cut into tokens, which operations and networks they are, and how networks are printed.
+//! Texts of networks: how they are cut into tokens, which networks they are, and how networks are printed.
 #![tactic(auto)]
 
 mod argument;
@@ -10,7 +10,6 @@ mod described;
 mod fault;
 mod form;
 mod laws;
-mod leaves;
 mod lexeme;
 mod mark;
 mod named_net;
@@ -20,17 +19,17 @@ mod piece;
 mod print;
 mod reader;
 mod token;
+mod token_argument;
 mod word;
 
 pub use described::{Described, MOST_BYTES, read_net};
 pub use fault::{ReadFault, TextKind};
 pub use laws::{
-    forms_round_one_another_are_the_depth, leaves_are_what_a_text_spells,
-    networks_spelled_alike_are_the_same, printed_networks_are_spelled, printed_operations_are_read,
-    printed_pieces_are_cut_into_them, stops_are_first_faults, texts_are_cut_from_the_front,
-    texts_of_networks_are_taken, texts_stop_at_their_end,
+    forms_round_one_another_are_the_depth, networks_spelled_alike_are_the_same,
+    printed_networks_are_spelled, printed_operations_are_read, printed_pieces_are_cut_into_them,
+    stops_are_first_faults, texts_are_cut_from_the_front, texts_of_networks_are_taken,
+    texts_stop_at_their_end,
 };
-pub use leaves::{LeavesFault, read_leaves};
 pub use mark::Mark;
 pub use print::{print_described, print_net};
 pub use reader::Reader;

@@ -2,7 +2,7 @@
 ghost use Rattle.std.specs.Prelude.{◌≡◌, ◌∷◌, ◌++◌, map, IfOk};
 ghost use Rattle.ff_ops.specs.Table.{name_of, kinds_of};
 ghost use Rattle.ff_text.specs.Grammar.{AllFit};
-ghost use Rattle.ff_text.specs.Leaves.{argument_token, IsNew, spelling};
+ghost use Rattle.ff_text.specs.OperationTokens.{argument_token, IsNew, spelling};
 ghost use Rattle.ff_text.specs.Printing.{tokens_of};
 ghost use Rattle.ff_text.specs.Reading.{IsEaten};
 ghost use Rattle.ff_text.specs.Seen.{context_of};

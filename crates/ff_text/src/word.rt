@@ -2,7 +2,7 @@
 ghost use Rattle.std.specs.Prelude.{◌≡◌, [], ◌∷◌, ◌++◌, IfOk, OnOk, MatchOption, codes, Some, true, false};
 ghost use Rattle.ff_ops.specs.declared.arg.ArgKind.TheVariants.{Num as AnyNumber, Cmp as AnyComparison};
 ghost use Rattle.ff_text.specs.Grammar.{a_count, IsCount, IsRoute, count_token, sched_word, route_spelling};
-ghost use Rattle.ff_text.specs.Leaves.{mark_of};
+ghost use Rattle.ff_text.specs.OperationTokens.{mark_of};
 ghost use Rattle.ff_text.specs.Printing.{tokens_of};
 ghost use Rattle.ff_text.specs.Reading.{IsEaten};
 ghost use Rattle.ff_text.specs.Seen.{context_of};

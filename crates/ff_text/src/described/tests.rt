@@ -3,6 +3,7 @@ use super::{Described, read_net};
 use crate::{ReadFault, TextKind};
 use ff_net::{Net, Route, Sched, Version};
 use ff_node::Cmp;
+use ff_ops::ROWS;
 use std::alloc::Global;
 use std::process::Abort;
 use std::test::Fail;
@@ -68,6 +69,23 @@ fn text_faults(rt: HostRuntime) {
         ("ffrun2 id", 0, TextKind::UnknownName),
         ("let w = id; w", 0, TextKind::UnknownName),
         ("call 1 \"cube\"", 0, TextKind::UnknownName),
+        (" # id", 5, TextKind::End),
+        ("id,", 2, TextKind::BadToken),
+        ("id 1", 3, TextKind::BadToken),
+        ("(id)", 0, TextKind::BadToken),
+        ("\"id\"", 0, TextKind::BadToken),
+        ("add 1 5 5", 8, TextKind::BadToken),
+        ("add 1 five", 6, TextKind::BadToken),
+        ("add 1 \"5\"", 6, TextKind::BadToken),
+        ("add 1 - 5", 6, TextKind::BadByte),
+        ("add 1 5.", 7, TextKind::BadByte),
+        ("pipe(", 5, TextKind::End),
+        ("pipe(id", 7, TextKind::End),
+        ("pipe(id,", 8, TextKind::End),
+        ("pipe id)", 5, TextKind::BadToken),
+        ("pipe(,id)", 5, TextKind::BadToken),
+        ("pipe(id))", 8, TextKind::BadToken),
+        ("pipe(id) id", 9, TextKind::BadToken),
     ] {
         expect_fault(&rt, alloc, text.as_bytes(), at, kind);
     }
@@ -131,6 +149,58 @@ fn read(alloc: Global, text: &str) -> Result<Described, Fail> {
         Ok(described) => Ok(described),
         Err(_) => Err("not read".into()),
     }
+}
+
+#[test]
+fn each_row_by_its_text(rt: HostRuntime) -> Result<(), Fail> {
+    let alloc = rt.alloc();
+    let texts = [
+        "id",
+        "add 1 -5",
+        "sub 64 7",
+        "mul 2 -9223372036854775808",
+        "div 1 -1",
+        "rem 1 9223372036854775807",
+        "neg 1",
+        "set 1 \"a;b\"",
+        "keep 2",
+        "drop 2",
+        "swap 1 64",
+        "copy 3",
+        "len 1",
+        "upper 1",
+        "lower 1",
+        "if 1 != 3",
+        "ifeq 1 \"\"",
+        "has 1 \"x y\"",
+        "words 1",
+        "dup 64",
+        "halve 1",
+        "plus 1 2",
+        "number",
+        "runsum 1",
+        "delta 1",
+        "take 1000000000",
+        "skip 0",
+        "uniq 1",
+        "tally",
+        "total 1",
+        "min 1",
+        "max 1",
+        "tallyby 1",
+        "totalby 1 2",
+    ];
+    assert_eq!(&rt; texts.len(), ROWS.len());
+    for (text, row) in texts.iter().zip(ROWS) {
+        let Net::Leaf(node) = read(alloc, text)?.net else {
+            return Err("no operation".into());
+        };
+        assert_eq!(&rt; node.op().row(), row);
+        let mut printed = Vec::new(alloc);
+        node.op().print(&mut printed)?;
+        assert_eq!(&rt; printed.as_slice(), text.as_bytes());
+    }
+    Ok(())
 }
 
 #[test]

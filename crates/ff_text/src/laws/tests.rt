@@ -1,24 +1,29 @@
 // Operations are printed, and read again by their texts; the texts are written by hand.
-use crate::read_leaves;
+use crate::{Described, read_net};
+use ff_net::{Net, Version};
 use ff_node::Cmp;
-use ff_ops::{Arg, Op};
+use ff_ops::{Arg, Op, OpNode};
 use ff_rec::Field;
 use std::alloc::Global;
 use std::process::Abort;
 use std::test::Fail;
 
-// An operation is printed as the text, and the text is read as one operation, which is printed as the text.
-fn check_printed(rt: &impl Abort, alloc: Global, op: &Op, text: &[u8]) -> Result<(), Fail> {
+// An operation is printed as the text, and the text is read as the network that is this one operation.
+fn check_printed(rt: &impl Abort, alloc: Global, op: Op, text: &[u8]) -> Result<(), Fail> {
     let mut printed = Vec::new(alloc);
     op.print(&mut printed)?;
     assert_eq!(rt; printed.as_slice(), text);
-    let nodes = read_leaves(alloc, &printed).map_err(|_| "not read")?;
-    assert_eq!(rt; nodes.len(), 1);
-    for node in &nodes {
-        let mut again = Vec::new(alloc);
-        node.op().print(&mut again)?;
-        assert_eq!(rt; again.as_slice(), text);
-    }
+    let Ok(Described { version, net }) = read_net(alloc, &printed) else {
+        return Err("not read".into());
+    };
+    assert_eq!(rt; version, Version::One);
+    let Net::Leaf(node) = net else {
+        return Err("no operation".into());
+    };
+    // Nodes can't be compared; what is shown of them has the row, the arguments and the state.
+    let shown = format!(in alloc; "{node:?}")?;
+    let want = OpNode::new(op);
+    assert_eq!(rt; shown, format!(in alloc; "{want:?}")?);
     Ok(())
 }
 
@@ -26,12 +31,12 @@ fn check_printed(rt: &impl Abort, alloc: Global, op: &Op, text: &[u8]) -> Result
 fn printed_operations_are_read_again(rt: HostRuntime) -> Result<(), Fail> {
     let alloc = rt.alloc();
     let none: [Arg; 0] = [];
-    check_printed(&rt, alloc, &Op::read(alloc, b"tally", &none)?, b"tally")?;
+    check_printed(&rt, alloc, Op::read(alloc, b"tally", &none)?, b"tally")?;
     let add = [Arg::Num(2), Arg::Num(-9223372036854775808)];
     check_printed(
         &rt,
         alloc,
-        &Op::read(alloc, b"add", &add)?,
+        Op::read(alloc, b"add", &add)?,
         b"add 2 -9223372036854775808",
     )?;
     for (cmp, text) in [
@@ -43,19 +48,14 @@ fn printed_operations_are_read_again(rt: HostRuntime) -> Result<(), Fail> {
         (Cmp::Gt, "if 1 > 0"),
     ] {
         let args = [Arg::Num(1), Arg::Cmp(cmp), Arg::Num(0)];
-        check_printed(&rt, alloc, &Op::read(alloc, b"if", &args)?, text.as_bytes())?;
+        check_printed(&rt, alloc, Op::read(alloc, b"if", &args)?, text.as_bytes())?;
     }
     for (bytes, text) in [("", "set 64 \"\""), ("a;b, #(c)", "set 64 \"a;b, #(c)\"")] {
         let args = [
             Arg::Num(64),
             Arg::Text(Field::new(alloc, bytes.as_bytes())?),
         ];
-        check_printed(
-            &rt,
-            alloc,
-            &Op::read(alloc, b"set", &args)?,
-            text.as_bytes(),
-        )?;
+        check_printed(&rt, alloc, Op::read(alloc, b"set", &args)?, text.as_bytes())?;
     }
     Ok(())
 }

@@ -37,6 +37,12 @@ fn check_prints(rt: HostRuntime) -> Result<(), Fail> {
         ("a2a 2 (id) rr 3 (id)", "a2a 2 (id) rr 3 (id)"),
         ("a2a 2 (id) od 3 (id)", "a2a 2 (id) od 3 (id)"),
         ("wrap 2(id)if 1>-1", "wrap 2 (id) if 1 > -1"),
+        (" \t\nadd  01 5 # last\n", "add 1 5"),
+        ("if 1<=-3", "if 1 <= -3"),
+        (
+            "# all\npipe # one (\n(add 1 5,set 2\"a,b\"\r\n, tally )#",
+            "pipe(add 1 5, set 2 \"a,b\", tally)",
+        ),
         (
             "pipe(set 1\"a b\",if 1!=3,farm 2 rr(pipe(id)))",
             "pipe(set 1 \"a b\", if 1 != 3, farm 2 rr (pipe(id)))",

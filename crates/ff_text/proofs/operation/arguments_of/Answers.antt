@@ -5,7 +5,7 @@ use Rattle.ff_ops.specs.declared.arg.Arg.{Arg}
 use Rattle.ff_ops.specs.declared.arg.ArgKind.{ArgKind}
 use Rattle.ff_ops.specs.declared.arg.ArgKind.TheVariants.{Field}
 use Rattle.ff_text.specs.Grammar.{fits, AllFit}
-use Rattle.ff_text.specs.Leaves.{argument_token}
+use Rattle.ff_text.specs.OperationTokens.{argument_token}
 use Rattle.ff_text.specs.Printing.{tokens_of}
 use Rattle.ff_text.specs.Seen.{context_of}
 use Rattle.ff_text.specs.Wants.{Argument, walk_in}

@@ -5,7 +5,7 @@ use Rattle.ff_ops.specs.Operation.{OpState, read_op}
 use Rattle.ff_ops.specs.Table.{name_of}
 use Rattle.ff_ops.specs.declared.op.OpFault.{OpFault}
 use Rattle.ff_ops.specs.declared.op.OpFault.TheVariants.{NoMemory}
-use Rattle.ff_text.specs.Leaves.{argument_token}
+use Rattle.ff_text.specs.OperationTokens.{argument_token}
 use Rattle.ff_text.specs.Printing.{tokens_of}
 use Rattle.ff_text.specs.Tokens.{Word}
 use Rattle.ff_text.proofs.OpParts.{read_op-parts, IsNew-read_op}
