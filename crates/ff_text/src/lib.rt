@@ -9,6 +9,7 @@ mod depth;
 mod described;
 mod fault;
 mod form;
+mod forms;
 mod laws;
 mod lexeme;
 mod mark;

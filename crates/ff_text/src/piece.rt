@@ -1,8 +1,8 @@
-// Tokens that don't stand in their place, and the marks round networks.
-ghost use Rattle.std.specs.Prelude.{◌≡◌, [], ◌∷◌, OnOk};
-ghost use Rattle.ff_text.specs.declared.mark.Mark.TheVariants.{Open, Close};
+// Tokens that don't stand in their place, and the marks round networks and between them.
+ghost use Rattle.std.specs.Prelude.{◌≡◌, ℕ, [], ◌∷◌, IfOk, OnOk, if◌then◌else◌};
+ghost use Rattle.ff_text.specs.declared.mark.Mark.TheVariants.{Open, Close, Comma};
 ghost use Rattle.ff_text.specs.Printing.{tokens_of};
-ghost use Rattle.ff_text.specs.Reading.{IsEaten};
+ghost use Rattle.ff_text.specs.Reading.{IsEaten, IsAnother};
 ghost use Rattle.ff_text.specs.Seen.{context_of, token_of};
 ghost use Rattle.ff_text.specs.Tokens.{Sign};
 ghost use Rattle.ff_text.specs.Wants.{Opening, Closing, refused_in};
@@ -44,6 +44,19 @@ pub(crate) fn closing(context: &Context, reader: &mut Reader) -> Result<(), Read
     let spot = reader.next();
     match spot.token {
         Token::Sign(Mark::Close) => Ok(()),
+        _ => Err(refused(context.version, spot)),
+    }
+}
+
+/// Whether another part follows, behind a `,`; otherwise `)` is taken.
+pub(crate) fn another(context: &Context, reader: &mut Reader) -> Result<bool, ReadFault>
+    ensures eaten { (room : ℕ) → IsAnother (context_of context.now) room result reader.old reader.new }
+    ensures text { IfOk result (λ more. tokens_of reader.old ≡ Sign (if more then Comma else Close) ∷ tokens_of reader.new) }
+{
+    let spot = reader.next();
+    match spot.token {
+        Token::Sign(Mark::Comma) => Ok(true),
+        Token::Sign(Mark::Close) => Ok(false),
         _ => Err(refused(context.version, spot)),
     }
 }

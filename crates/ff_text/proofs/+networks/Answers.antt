@@ -18,25 +18,25 @@ use Rattle.ff_text.proofs.Named.{form_word-form_named}
 use Rattle.ff_text.proofs.Parts.{left, ArePartsSoFar, ArePartsSoFar-push, SpellsSoFar, SpellsSoFar-push}
 use Rattle.ff_text.proofs.Shorter.{Spells-shorter}
 use Rattle.ff_text.proofs.Eaten.{eaten-form, eaten-another, eaten-no_other}
-use Rattle.ff_text.proofs.network.+networks.Goals as goal
+use Rattle.ff_text.proofs.+networks.Goals as goal
 
-pub network-returns-in-Some-clause-eaten : goal.network-returns-in-Some-clause-eaten
-network-returns-in-Some-clause-eaten t c =
+pub network::network-returns-in-Some-clause-eaten : goal.network::network-returns-in-Some-clause-eaten
+network::network-returns-in-Some-clause-eaten t c =
     let spot = c.next-spot.result in
     let mid = c.next-spot.new.self in
     let front = c.next-spot.ensures.first ∙ ap (λ (u : Borrowed). record { token = token_of u; at = spot.at } ∷ behind (token_of u) mid) c.in-Word.is in
     eaten-form (context_of c.args.context.now) c.formed.result c.args.reader.now mid c.formed.new.reader spot.at c.in-Word.name.now c.in-Some.form c.args.room front (sym c.in-Some.ensures) c.if-room-eq0.false c.formed.ensures.eaten
 
-pub network-returns-in-Some-clause-text : goal.network-returns-in-Some-clause-text
-network-returns-in-Some-clause-text t c =
+pub network::network-returns-in-Some-clause-text : goal.network::network-returns-in-Some-clause-text
+network::network-returns-in-Some-clause-text t c =
     let spot = c.next-spot.result in
     let mid = c.next-spot.new.self in
     let front = c.next-spot.ensures.first ∙ ap (λ (u : Borrowed). record { token = token_of u; at = spot.at } ∷ behind (token_of u) mid) c.in-Word.is in
     let tokens = ap tokens_of front ∙ ap (λ name. Word name ∷ tokens_of mid) (sym (form_word-form_named c.in-Word.name.now c.in-Some.form (sym c.in-Some.ensures))) in
     subst (λ ts. IfOk c.formed.result (λ (net : Net OpState). Spells (context_of c.args.context.now).names (tree_of net) ts (tokens_of c.formed.new.reader))) (sym tokens) c.formed.ensures.text
 
-pub network-returns-in_ok-operation-in-Some-named-clause-text : goal.network-returns-in_ok-operation-in-Some-named-clause-text
-network-returns-in_ok-operation-in-Some-named-clause-text t c =
+pub network::network-returns-in_ok-operation-in-Some-named-clause-text : goal.network::network-returns-in_ok-operation-in-Some-named-clause-text
+network::network-returns-in_ok-operation-in-Some-named-clause-text t c =
     let spot = c.next-spot.result in
     let mid = c.next-spot.new.self in
     let front = c.next-spot.ensures.first ∙ ap (λ (u : Borrowed). record { token = token_of u; at = spot.at } ∷ behind (token_of u) mid) c.in-Word.is in
@@ -44,8 +44,8 @@ network-returns-in_ok-operation-in-Some-named-clause-text t c =
     ∙ ap (λ name. Word name ∷ tokens_of mid) (sym (name_of-row_named c.in-Word.name.now c.in-Some-named.row (sym c.in-Some-named.ensures)))
     ∙ c.in_ok-operation-in-Some-named.ensures.text)
 
-pub parts-returns-in_err-more-clause-eaten : goal.parts-returns-in_err-more-clause-eaten
-parts-returns-in_err-more-clause-eaten t c =
+pub forms::parts-returns-in_err-more-clause-eaten : goal.forms::parts-returns-in_err-more-clause-eaten
+forms::parts-returns-in_err-more-clause-eaten t c =
     let context = context_of c.args.context.now in
     let h = c.in_err-more.ensures.eaten c.args.room in
     let room = c.args.room in
@@ -55,8 +55,8 @@ parts-returns-in_err-more-clause-eaten t c =
     (eaten-no_other (Vec (Net OpState) Global) context room c.in_err-more.field-0.0 (Opening ∷ Network room ∷ Parts room ∷ []) c.args.reader.now c.network.new.reader c.another.new.reader
     (λ ws. c.in_ok-opening.ensures.eaten (Network room ∷ Parts room ∷ ws) ∙ so ws ∙ c.in_ok-network.ensures.eaten (Parts room ∷ ws)) h)
 
-pub parts-loop-more-preserved : goal.parts-loop-more-preserved
-parts-loop-more-preserved t c =
+pub forms::parts-loop-more-preserved : goal.forms::parts-loop-more-preserved
+forms::parts-loop-more-preserved t c =
     let context = context_of c.args.context.now in
     let room = c.args.room in
     let net = c.in_ok-network.field-0 in
@@ -75,14 +75,14 @@ parts-loop-more-preserved t c =
           (SpellsSoFar-push context.names net (tokens_of c.loop-more.reader) another done start rest text last);
     }
 
-pub parts-loop-more-smaller : goal.parts-loop-more-smaller
-parts-loop-more-smaller t c =
+pub forms::parts-loop-more-smaller : goal.forms::parts-loop-more-smaller
+forms::parts-loop-more-smaller t c =
     let names = (context_of c.args.context.now).names in
     let shorter = Spells-shorter names (tree_of c.in_ok-network.field-0) (tokens_of c.loop-more.reader) (tokens_of c.network.new.reader) c.in_ok-network.ensures.text in
     omega (arith, shorter, ap length c.in_ok-more.ensures.text)
 
-pub formed-returns-in_ok-parts-in-Pipe-clause-text : goal.formed-returns-in_ok-parts-in-Pipe-clause-text
-formed-returns-in_ok-parts-in-Pipe-clause-text t c =
+pub forms::formed-returns-in_ok-parts-in-Pipe-clause-text : goal.forms::formed-returns-in_ok-parts-in-Pipe-clause-text
+forms::formed-returns-in_ok-parts-in-Pipe-clause-text t c =
     let names = (context_of c.args.context.now).names in
     let old = tokens_of c.args.reader.now in
     let new = tokens_of c.parts.new.reader in
@@ -91,8 +91,8 @@ formed-returns-in_ok-parts-in-Pipe-clause-text t c =
     subst (λ form. Spells names (tree_of (NetPipe parts)) (Word (form_word form) ∷ old) new) (sym c.in-Pipe.is)
     (subst (λ net. Spells names net (Word (codes "pipe") ∷ old) new) (sym (tree_of-Pipe parts)) made)
 
-pub formed-returns-in_ok-parts-in-Comb-clause-text : goal.formed-returns-in_ok-parts-in-Comb-clause-text
-formed-returns-in_ok-parts-in-Comb-clause-text t c =
+pub forms::formed-returns-in_ok-parts-in-Comb-clause-text : goal.forms::formed-returns-in_ok-parts-in-Comb-clause-text
+forms::formed-returns-in_ok-parts-in-Comb-clause-text t c =
     let names = (context_of c.args.context.now).names in
     let old = tokens_of c.args.reader.now in
     let new = tokens_of c.parts-in-Comb.new.reader in
