@@ -8,7 +8,7 @@ pub mod Counts
 pub mod Rising
 pub mod Joins
 pub mod Places
-pub mod Overwrites
+pub mod Turns
 pub mod Edits
 pub mod Swaps
 pub mod TabCounts

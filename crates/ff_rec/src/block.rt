@@ -69,23 +69,13 @@ fn narrow(block: &mut Vec<u8>, start: usize, end: usize, by: &[u8])
     requires within { end ≤ length block.old.items }
     ensures { block.new.items ≡ take start block.old.items ++ (by.now ++ drop end block.old.items) }
 {
-    let left = block.len() - (end - start - by.len());
-    overwrite(block.as_mut_slice(), start, end, by);
-    block.truncate(left);
-}
-
-/// Writes the other bytes over the first of those that stand there, and turns what is left of those to the end.
-fn overwrite(bytes: &mut [u8], start: usize, end: usize, by: &[u8])
-    requires fewer { start + length by.now ≤ end }
-    requires within { end ≤ length bytes.old }
-    ensures { bytes.new ≡ (take start bytes.old ++ (by.now ++ drop end bytes.old)) ++ slice_range bytes.old (start + length by.now) end }
-{
     let last = start + by.len();
-    bytes[start..last].copy_from_slice(by);
-    bytes[last..].rotate_left(end - last);
+    block.copy_within(end.., last);
+    block.truncate(block.len() - (end - last));
+    block[start..last].copy_from_slice(by);
 }
 
-/// The same where they are more: what is too much is put at the end, turned before what follows, and the rest copied.
+/// The same where they are more.
 fn widen(block: &mut Vec<u8>, start: usize, end: usize, by: &[u8]) -> Result<(), NoMemory>
     requires order { start ≤ end }
     requires within { end ≤ length block.old.items }
@@ -93,11 +83,12 @@ fn widen(block: &mut Vec<u8>, start: usize, end: usize, by: &[u8]) -> Result<(),
     ensures ok { OnOk result (block.new.items ≡ take start block.old.items ++ (by.now ++ drop end block.old.items)) }
     ensures err { OnErr result (block.new.items ≡ block.old.items) }
 {
-    let (front, more) = by.split_at(end - start);
+    let len = block.len();
+    let (_, more) = by.split_at(end - start);
     block.reserve_exact(more.len())?;
     block.extend_from_slice(more)?;
-    block[end..].rotate_right(more.len());
-    block[start..end].copy_from_slice(front);
+    block.copy_within(end..len, end + more.len());
+    block[start..start + by.len()].copy_from_slice(by);
     Ok(())
 }
 

@@ -1,5 +1,5 @@
 -- The part that begins with the one and ends with the other is turned.
-use Rattle.ff_rec.proofs.Overwrites.{parts_swapped}
+use Rattle.ff_rec.proofs.Turns.{parts_swapped}
 use Rattle.ff_rec.proofs.block.edits.swap_parts.Goals as goal
 
 pub returns : goal.returns

@@ -1,26 +1,8 @@
--- What stands in a slice after a part of it was written over, and after parts of it were turned.
-use Rattle.std.proofs.Common.{◌≡◌, ℕ, ◌+◌, ◌-◌, ◌≤◌, List, [], ◌++◌, length, take, drop, slice_range, sym, ap, ap₂, ◌∙◌, append_assoc, arith, length-append, length-drop}
+-- What stands in a slice after parts of it were turned.
+use Rattle.std.proofs.Common.{◌≡◌, ℕ, ◌-◌, ◌≤◌, List, [], ◌++◌, length, take, drop, slice_range, sym, ap, ap₂, ◌∙◌, arith, length-append, length-drop}
 use Rattle.std.proofs.lemmas.List.{append-nil, drop-drop, drop_at, drop_all, take_at, take-take, take_rest, length-take-le}
-use Rattle.std.proofs.lemmas.Slice.{between_is, take-put_mid, drop-put_mid}
+use Rattle.std.proofs.lemmas.Slice.{between_is}
 use borrow.Rule.Slice.PartMut.{put_mid}
-
--- `ys` is written over the first of the bytes from `start` up to `end`, and the others of those are turned to the end
-pub overwritten : (xs ys rs : List ℕ) (start end last n m : ℕ) → start + length ys ≡ last → last ≤ end → end ≤ length xs → n ≡ length ys
-    → m ≡ length (put_mid start n xs ys) - last
-    → rs ≡ drop (end - last) (take m (drop last (put_mid start n xs ys))) ++ take (end - last) (take m (drop last (put_mid start n xs ys)))
-    → put_mid last m (put_mid start n xs ys) rs ≡ (take start xs ++ (ys ++ drop end xs)) ++ take (end - last) (drop last xs)
-overwritten xs ys rs start end last n m is low high long left turned =
-    let zs = put_mid start n xs ys in
-    let rest : drop last zs ≡ drop last xs = drop-put_mid start n xs ys last (omega arith) (omega arith) (omega arith) in
-    let all : take m (drop last zs) ≡ drop last xs = ap (λ (i : ℕ). take i (drop last zs)) left ∙ take_rest zs last ∙ rest in
-    let front : take last zs ≡ take start xs ++ ys = take-put_mid start n xs ys last (sym is) (omega arith) in
-    let none : drop m (drop last zs) ≡ [] = drop_all m (drop last zs) (omega (arith, length-drop last zs)) in
-    let beyond : drop (end - last) (drop last xs) ≡ drop end xs = drop-drop (end - last) last xs ∙ ap (λ (i : ℕ). drop i xs) (omega arith) in
-    let turned-is : rs ≡ drop end xs ++ take (end - last) (drop last xs) =
-    turned ∙ ap (λ (q : List ℕ). drop (end - last) q ++ take (end - last) q) all ∙ ap (λ (q : List ℕ). q ++ take (end - last) (drop last xs)) beyond in
-    ap₂ ◌++◌ front (ap₂ ◌++◌ turned-is none ∙ append-nil (drop end xs ++ take (end - last) (drop last xs)))
-    ∙ sym (append_assoc (take start xs ++ ys) (drop end xs) (take (end - last) (drop last xs)))
-    ∙ ap (λ (q : List ℕ). q ++ take (end - last) (drop last xs)) (append_assoc (take start xs) ys (drop end xs))
 
 -- three parts, of which the last is turned to the front, and of the others the first behind the second
 pub turned : (xs ys zs : List ℕ) (left right n m : ℕ) → left ≤ right → right ≤ length xs → ys ≡ drop right xs ++ take right xs → n ≡ length ys - right → m ≡ length ys - n
