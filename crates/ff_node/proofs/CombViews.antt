@@ -22,11 +22,15 @@ module _ {N : Type 0} (b : Behaviour N) where
   opened-parts (n ∷ ns) [] = ap (λ ps. part (b.opening n) false ∷ ps) (opened-parts ns [])
   opened-parts (n ∷ ns) (e ∷ es) = ap (λ ps. part (b.opening n) false ∷ ps) (opened-parts ns es)
 
+  -- opened nodes are an opened comb
+  pub running-opened : (ns ms : List N) (es : List Bool) (ps : List (Part N)) → ms ≡ map b.opening ns → parts ns es ≡ ps
+      → running ms ≡ map (opened b) ps
+  running-opened ns ms es ps opening view = ap running opening ∙ sym (opened-parts ns es) ∙ ap (map (opened b)) view
+
   -- a comb whose nodes are opened is opened
   pub parts-opened : (ns ms : List N) (es : List Bool) (k : ℕ) (ps : List (Part N)) → ms ≡ map b.opening ns → parts ns es ≡ ps
       → parts ms (replicate k false) ≡ map (opened b) ps
-  parts-opened ns ms es k ps opening view =
-      parts-running ms k ∙ ap running opening ∙ sym (opened-parts ns es) ∙ ap (map (opened b)) view
+  parts-opened ns ms es k ps opening view = parts-running ms k ∙ running-opened ns ms es ps opening view
 
   -- nodes of the same kinds are as many
   as_many : (v : Vec N Global) (ms : List N) → map b.opening ms ≡ map b.opening v.items → (with_items v ms).items ≡ ms

@@ -16,6 +16,10 @@ pub struct Comb<N> {
     nodes: Vec<N>,
     // Which of them have ended by themselves.
     ended: [bool; 64],
+    // Records between two parts, and those that the caller's sends held before. Both are kept for their room alone: a
+    // block for each call would cost more than a part's own work.
+    given: VecDeque<Record>,
+    before: VecDeque<Record>,
 }
 
 impl<N> Model for Comb<N> {
@@ -36,9 +40,12 @@ impl<N: Node> Comb<N> {
         requires few { length parts.items ≤ 64 }
         ensures { result ≡ running parts.items }
     {
+        let alloc = *parts.allocator();
         Comb {
             nodes: parts,
             ended: [false; 64],
+            given: VecDeque::new(alloc),
+            before: VecDeque::new(alloc),
         }
     }
 }
@@ -59,10 +66,7 @@ impl<N: Node> Node for Comb<N> {
     }
 
     fn copy(&self) -> Result<Comb<N>, NoMemory> {
-        Ok(Comb {
-            nodes: copies(&self.nodes)?,
-            ended: [false; 64],
-        })
+        Ok(Comb::new(copies(&self.nodes)?))
     }
 
     fn svc_init(&mut self) {
@@ -71,19 +75,24 @@ impl<N: Node> Node for Comb<N> {
     }
 
     fn svc(&mut self, r: Record, out: &mut Sends) -> Result<Next, NoMemory> {
-        let before = out.take_sends();
-        let mut given = VecDeque::new(*before.allocator());
-        given.push_back(r)?;
-        pass(&mut self.nodes, &mut self.ended, &mut given, out)?;
-        out.put_sends(before, given)?;
+        self.given.clear();
+        self.given.push_back(r)?;
+        self.before.clear();
+        out.swap_sends(&mut self.before);
+        pass(&mut self.nodes, &mut self.ended, &mut self.given, out)?;
+        self.before.append(&mut self.given)?;
+        out.swap_sends(&mut self.before);
         Ok(if self.ended[0] { Next::Eos } else { Next::GoOn })
     }
 
     fn eos_notify(&mut self, out: &mut Sends) -> Result<(), NoMemory> {
-        let before = out.take_sends();
-        let mut given = VecDeque::new(*before.allocator());
-        finish(&mut self.nodes, &mut self.ended, &mut given, out)?;
-        out.put_sends(before, given)
+        self.given.clear();
+        self.before.clear();
+        out.swap_sends(&mut self.before);
+        finish(&mut self.nodes, &mut self.ended, &mut self.given, out)?;
+        self.before.append(&mut self.given)?;
+        out.swap_sends(&mut self.before);
+        Ok(())
     }
 
     fn svc_end(&mut self) {

@@ -105,36 +105,12 @@ impl Sends {
         self.sends.pop_front()
     }
 
-    /// All that was sent, which is taken out.
-    pub(crate) fn take_sends(&mut self) -> VecDeque<Record>
-        ensures taken { result.items ≡ self.old.sends }
-        ensures left { self.new ≡ record self.old { sends = [] } }
-    {
-        let none = VecDeque::new(*self.sends.allocator());
-        mem::replace(&mut self.sends, none)
-    }
-
     /// These in the place of what was sent, which comes back in theirs.
     pub(crate) fn swap_sends(&mut self, other: &mut VecDeque<Record>)
         ensures mine { self.new ≡ record self.old { sends = other.old.items } }
         ensures theirs { other.new.items ≡ self.old.sends }
     {
         mem::swap(&mut self.sends, other);
-    }
-
-    /// Both, one behind the other, in the place of what was sent.
-    pub(crate) fn put_sends(
-        &mut self,
-        front: VecDeque<Record>,
-        back: VecDeque<Record>,
-    ) -> Result<(), NoMemory>
-        ensures { OnOk result (self.new ≡ record self.old { sends = front.items ++ back.items }) }
-    {
-        let mut front = front;
-        let mut back = back;
-        front.append(&mut back)?;
-        self.sends = front;
-        Ok(())
     }
 
     /// The first reject that is kept.
