@@ -2,7 +2,7 @@
 use Rattle.std.proofs.Common.{◌≡◌, List, Ok, sym, ap, subst, ◌∙◌}
 use Rattle.ff_ops.specs.Families.{family_opening}
 use Rattle.ff_ops.specs.FamilyLaws.{family_opening-opening}
-use Rattle.ff_ops.specs.Operation.{OpState, read_op}
+use Rattle.ff_ops.specs.Operation.{read_op}
 use Rattle.ff_ops.specs.Table.{name_of}
 use Rattle.ff_ops.specs.declared.arg.Arg.{Arg}
 use Rattle.ff_ops.specs.declared.family.Family.{Family}

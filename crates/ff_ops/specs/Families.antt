@@ -1,5 +1,5 @@
 -- Every operation as one of the five families, and a family as a node.
-use Rattle.std.specs.Prelude.{ℕ, ◌^◌, nat_lt, if◌then◌else◌, Bool, List, [], ◌∷◌, Option, None, Some, slice_get, ℤ, pos, negsuc}
+use Rattle.std.specs.Prelude.{ℕ, ◌^◌, nat_lt, if◌then◌else◌, Bool, List, [], Option, None, Some, slice_get, ℤ, pos, negsuc}
 use Rattle.ff_rec.specs.Lines.{Rec}
 use Rattle.ff_node.specs.Behaviour.{Behaviour}
 use Rattle.ff_node.specs.declared.class.Class.{Class}

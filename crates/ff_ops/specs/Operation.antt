@@ -1,5 +1,5 @@
 -- An operation: its row with arguments that fit it, how it stands in a text, and what it does.
-use Rattle.std.specs.Prelude.{◌≡◌, ℕ, ◌==◌, not, if◌then◌else◌, List, [], ◌∷◌, ◌++◌, length, position, zip, Option, None, Some, Result, Ok, Err}
+use Rattle.std.specs.Prelude.{ℕ, ◌==◌, not, if◌then◌else◌, List, ◌∷◌, ◌++◌, length, position, zip, Option, None, Some, Result, Ok, Err}
 use Rattle.std.specs.List.{flat_map}
 use Rattle.ff_node.specs.Behaviour.{Behaviour}
 use Rattle.ff_ops.specs.Arguments.{suits, is_within, printed_argument}

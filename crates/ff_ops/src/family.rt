@@ -2,7 +2,9 @@
 ghost use Rattle.std.specs.Prelude.{◌≡◌, IfOk};
 ghost use Rattle.ff_ops.specs.Families.{number_at, count_at, cmp_at, text_at, family_of};
 
-use crate::{Arg, Counts, FieldOp, FoldNode, FoldOp, KeyedOp, NumberOp, OrderedOp, Row, Totals};
+use crate::{
+    Arg, Counts, FieldOp, FoldNode, FoldOp, KeyedOp, Needle, NumberOp, OrderedOp, Row, Totals,
+};
 use ff_node::{Class, Cmp, Next, Node, Sends};
 use ff_rec::{Field, Kept, NoMemory, Record};
 use std::alloc::Global;
@@ -43,7 +45,7 @@ impl Family {
             Row::Lower => Family::Field(FieldOp::Lower(field)),
             Row::If => { Family::Number(NumberOp::If(field, cmp_at(args, 1), number_at(args, 2))) }
             Row::IfEq => Family::Field(FieldOp::IfEq(field, text_at(alloc, args, 1)?)),
-            Row::Has => Family::Field(FieldOp::Has(field, text_at(alloc, args, 1)?)),
+            Row::Has => Family::Field(FieldOp::Has(field, needle_at(alloc, args, 1)?)),
             Row::Words => Family::Field(FieldOp::Words(field)),
             Row::Dup => Family::Field(FieldOp::Dup(field)),
             Row::Halve => Family::Number(NumberOp::Halve(field)),
@@ -105,6 +107,13 @@ fn text_at(alloc: Global, args: &[Arg], k: usize) -> Result<Field, NoMemory>
         Some(Arg::Text(text)) => text.copy(),
         _ => Field::of_plain(alloc, b""),
     }
+}
+
+// The same text, to be looked for.
+fn needle_at(alloc: Global, args: &[Arg], k: usize) -> Result<Needle, NoMemory>
+    ensures { IfOk result (λ needle. needle ≡ text_at args.now k) }
+{
+    Needle::new(alloc, &text_at(alloc, args, k)?)
 }
 
 impl Node for Family {

@@ -10,6 +10,7 @@ mod several;
 #[cfg(test)]
 mod tests;
 
+use crate::Needle;
 use edits::{
     append_copy, drop_field, keep_field, set_field, set_len, set_lowercase, set_uppercase,
     swap_fields,
@@ -39,7 +40,7 @@ pub enum FieldOp {
     /// The record is sent where the field is a text.
     IfEq(usize, Field),
     /// The record is sent where a text stands in the field.
-    Has(usize, Field),
+    Has(usize, Needle),
     /// A record for each longest run of bytes other than space.
     Words(usize),
     /// The record, so many times.

@@ -6,9 +6,9 @@ ghost use Rattle.ff_ops.specs.Answered.{answered};
 ghost use Rattle.ff_ops.specs.FieldOps.{occurs};
 ghost use Rattle.ff_ops.specs.Rows.{sent_if};
 
+use crate::Needle;
 use ff_node::Sends;
 use ff_rec::{Field, NoMemory, Record};
-use memchr::memmem;
 
 // Sends a record that passes, lets one go that doesn't, and rejects one without the field that is asked for.
 pub(crate) fn pass(passes: Option<bool>, r: Record, out: &mut Sends) -> Result<(), NoMemory>
@@ -29,15 +29,8 @@ pub(crate) fn equals(f: usize, text: &Field, r: &Record) -> Option<bool>
 }
 
 // Whether a text stands in field `f`.
-pub(crate) fn contains(f: usize, text: &Field, r: &Record) -> Option<bool>
+pub(crate) fn contains(f: usize, text: &Needle, r: &Record) -> Option<bool>
     ensures { result ≡ option_map (λ bytes. occurs text.now bytes) (field_at f r.now) }
 {
-    Some(stands_in(text.bytes(), r.field(f)?))
-}
-
-// Whether these bytes stand in others.
-fn stands_in(needle: &[u8], bytes: &[u8]) -> bool
-    ensures { result ≡ occurs needle.now bytes.now }
-{
-    memmem::find(bytes, needle).is_some()
+    Some(text.stands_in(r.field(f)?))
 }

@@ -1,5 +1,6 @@
 // What no clause says: that the calls succeed while memory is there, and that the definitions mean these bytes.
 use super::FieldOp;
+use crate::Needle;
 use ff_node::{Next, Node, Sends};
 use ff_rec::{Field, Record, print_record, split};
 use std::alloc::Global;
@@ -132,7 +133,7 @@ fn rows_that_let_records_pass(rt: HostRuntime) -> Result<(), Fail> {
         ("ab", None),
     ];
     check_each(&rt, alloc, &is, &cases)?;
-    let has = FieldOp::Has(1, Field::new(alloc, b"aab")?);
+    let has = FieldOp::Has(1, Needle::new(alloc, &Field::new(alloc, b"aab")?)?);
     let cases = [
         ("xaaabx\tq", Some("xaaabx\tq\n")),
         ("aab", Some("aab\n")),
@@ -140,7 +141,7 @@ fn rows_that_let_records_pass(rt: HostRuntime) -> Result<(), Fail> {
         ("aa\tb", Some("")),
     ];
     check_each(&rt, alloc, &has, &cases)?;
-    let empty = FieldOp::Has(2, Field::new(alloc, b"")?);
+    let empty = FieldOp::Has(2, Needle::new(alloc, &Field::new(alloc, b"")?)?);
     check_each(
         &rt,
         alloc,
