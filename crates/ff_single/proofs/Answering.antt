@@ -10,8 +10,8 @@ use Rattle.ff_node.specs.Sends.{kept_of}
 use Rattle.ff_net.specs.Forms.{is_ordered}
 use Rattle.ff_net.specs.Meaning.{mean, Fine, SameInOrder, Answers}
 use Rattle.ff_mean.specs.Runs.{AreKept}
-use Rattle.ff_single.specs.Endings.{Job, HasBegun, records_of}
-use Rattle.ff_single.specs.Streams.{streams}
+use Rattle.ff_single.specs.Endings.{Job, HasBegun, IsCutShort}
+use Rattle.ff_single.specs.Streams.{Streams}
 
 -- equal lists are the same in any order
 SameInOrder-≡ : (ordered : Bool) (xs ys : List Rec) → ys ≡ xs → SameInOrder ordered xs ys
@@ -22,11 +22,10 @@ SameInOrder-≡ false xs ys is = Same-≡ xs ys (sym is)
 pub Answers-mean : {N : Type 0} (j : Job N) (xs ys : List Rec) → Fine j.does j.tasks j.net xs → ys ≡ mean j.does j.tasks j.net xs → Answers j.does j.tasks j.net xs ys
 Answers-mean j xs ys fine is = record { fine = fine; same = SameInOrder-≡ (is_ordered j.net) (mean j.does j.tasks j.net xs) ys is }
 
--- of the text of an answer a prefix was taken
-pub HasBegun-prefix : {N : Type 0} (j : Job N) (l m : Option (List ℕ)) (ended : Bool) (f g : ℕ) (t u : Option (List ℕ)) (got : List ℕ) (ys : List Rec) → Consumes l m got
-    → Answers j.does j.tasks j.net (records_of j (streams l m ended f g t u) got) ys → AppendsPrefix t u (text ys) → HasBegun j (streams l m ended f g t u)
-HasBegun-prefix j l m ended f g t u got ys read answers some =
-    record { got = got; reads = read; front = some.front; begins = inr (ys, some.back, answers, sym some.splits); writes = some.appends }
+-- what was cut short had begun
+pub HasBegun-cut : {N : Type 0} (j : Job N) (s : Streams) → IsCutShort j s → HasBegun j s
+HasBegun-cut j s cut =
+    record { got = cut.got; reads = cut.reads; front = cut.writes.front; begins = inr (cut.sent, cut.writes.back, cut.answers, sym cut.writes.splits); writes = cut.writes.appends }
 
 -- the rejects that are kept of those of a node
 pub AreKept-kept_of : (keep : Bool) (losses rejects kept : List Rec) → Same losses rejects → kept ≡ kept_of keep rejects → AreKept keep losses kept

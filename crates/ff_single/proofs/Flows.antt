@@ -2,7 +2,8 @@
 use Rattle.std.proofs.Common.{◌≡◌, ℕ, Bool, List, [], ◌∷◌, ◌++◌, Ok, Err, refl, sym, ap, ◌∙◌, append-nil, map, length, length-append, arith}
 use Rattle.std.specs.Prelude.{Option, Result}
 use Rattle.std.specs.Io.KnownBytes.{Consumes}
-use Rattle.ff_rec.specs.Lines.{Rec}
+use Rattle.ff_io.specs.Bytes.{AppendsPrefix}
+use Rattle.ff_rec.specs.Lines.{Rec, text}
 use Rattle.ff_rec.proofs.WeightLaws.{Same-≡, Same-trans, Same-sym, Same-length}
 use Rattle.ff_node.specs.Behaviour.{Behaviour, KeepsKind, node, refused, line, line_refused, sent_from, refused_from}
 use Rattle.ff_node.specs.Comb.{running, nodes_of, comb_node, CombIsLine}
@@ -16,10 +17,10 @@ use Rattle.ff_stream.specs.Endings.{IsTold, EndsWith, HasRun as HasStreamed}
 use Rattle.ff_stream.specs.declared.report.Report.{Report}
 use Rattle.ff_stream.specs.declared.report.StreamFault.{StreamFault}
 use Rattle.ff_stream.specs.declared.report.StreamFault.TheVariants.{Write, Read, Line, NoMemory}
-use Rattle.ff_single.specs.Endings.{job, HasRun, Ran}
+use Rattle.ff_single.specs.Endings.{job, HasRun, IsCutShort, Ran}
 use Rattle.ff_single.specs.Flows.{IsNodeOf, ending_of}
 use Rattle.ff_single.specs.Streams.{streams}
-use Rattle.ff_single.proofs.Answering.{Answers-mean, HasBegun-prefix, AreKept-kept_of}
+use Rattle.ff_single.proofs.Answering.{Answers-mean, HasBegun-cut, AreKept-kept_of}
 
 module _ {N : Type 0} (b : Behaviour N) (kind : KeepsKind b) where
   -- copies of nodes in their opening states do what the nodes do
@@ -84,15 +85,21 @@ module _ {N S : Type 0} (does : Behaviour N) (t : Tree N) (b : Behaviour S) (o :
         cause = cause;
       }
 
+  -- of its text the first bytes were taken
+  IsCutShort-told : (l m : Option (List ℕ)) (ended : Bool) (f g : ℕ) (before now : Option (List ℕ)) (got : List ℕ) → Consumes l m got
+      → AppendsPrefix before now (text (node b o (seen_by v got ended))) → IsCutShort (job does t v limit keep) (streams l m ended f g before now)
+  IsCutShort-told l m ended f g before now got read told =
+      record { got = got; reads = read; sent = node b o (seen_by v got ended); answers = Answers-node (seen_by v got ended); writes = told }
+
   pub Ran-streamed : (l m : Option (List ℕ)) (ended : Bool) (f g : ℕ) (before now : Option (List ℕ)) (answer : Result Report StreamFault)
       → HasStreamed b o (line_bytes v) keep l m ended before now answer → EndsWith answer m ended → Ran (job does t v limit keep) (streams l m ended f g before now) (ending_of answer)
   Ran-streamed l m ended f g before now (Ok report) run ends =
       HasRun-told l m ended f g before now report _ run.got run.reads run.tells.1 (run.tells.0, ends.1, ends.0)
   Ran-streamed l m ended f g before now (Err Write) run ends =
-      HasBegun-prefix (job does t v limit keep) l m ended f g before now run.got (node b o (seen_by v run.got ended)) run.reads (Answers-node (seen_by v run.got ended)) run.tells
+      IsCutShort-told l m ended f g before now run.got run.reads run.tells
   Ran-streamed l m ended f g before now (Err (Read report)) run ends =
       HasRun-told l m ended f g before now report _ run.got run.reads run.tells.1 (run.tells.0, ends)
   Ran-streamed l m ended f g before now (Err (Line fault report)) run ends =
       HasRun-told l m ended f g before now report _ run.got run.reads run.tells.1 run.tells.0
   Ran-streamed l m ended f g before now (Err NoMemory) run ends =
-      HasBegun-prefix (job does t v limit keep) l m ended f g before now run.got (node b o (seen_by v run.got ended)) run.reads (Answers-node (seen_by v run.got ended)) run.tells
+      HasBegun-cut (job does t v limit keep) (streams l m ended f g before now) (IsCutShort-told l m ended f g before now run.got run.reads run.tells)

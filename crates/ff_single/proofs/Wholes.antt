@@ -13,7 +13,7 @@ use Rattle.ff_mean.specs.Runs.{Answered, IsMeant}
 use Rattle.ff_mean.specs.declared.outcome.Outcome.{Outcome}
 use Rattle.ff_mean.specs.declared.outcome.Outcome.TheVariants.{Done, Over}
 use Rattle.ff_stream.specs.declared.report.Report.{Report}
-use Rattle.ff_single.specs.Endings.{Job, HasBegun, HasRun, IsOverrun, IsReadOut, IsReported, Ran, records_of}
+use Rattle.ff_single.specs.Endings.{Job, HasBegun, HasRun, IsCutShort, IsOverrun, IsReadOut, IsReported, Ran, records_of}
 use Rattle.ff_single.specs.Reads.{HasRead, Stopped, Takes, answer_of, stop_count}
 use Rattle.ff_single.specs.Streams.{streams}
 use Rattle.ff_single.specs.Writes.{halted}
@@ -21,7 +21,7 @@ use Rattle.ff_single.specs.declared.stop.Halt.{Halt}
 use Rattle.ff_single.specs.declared.stop.Halt.TheVariants.{Write, NoMemory}
 use Rattle.ff_single.specs.declared.stop.Stop.{Stop}
 use Rattle.ff_single.specs.declared.stop.Stop.TheVariants.{End, Read, Line}
-use Rattle.ff_single.proofs.Answering.{Answers-mean, HasBegun-prefix}
+use Rattle.ff_single.proofs.Answering.{Answers-mean, HasBegun-cut}
 
 -- some bytes were read, and none were written
 pub HasBegun-taken : {N : Type 0} (j : Job N) (l m : Option (List ℕ)) (ended : Bool) (f g : ℕ) (t : Option (List ℕ)) → Takes l m → HasBegun j (streams l m ended f g t t)
@@ -59,10 +59,10 @@ Answers-read j l m ended stop xs ys number kept read meant f g t u =
     subst (λ (l : List Rec). Answers j.does j.tasks j.net l ys) read.records (Answers-mean j xs ys meant.fine meant.sent)
 
 -- a prefix of it was written
-pub HasBegun-read : {N : Type 0} (j : Job N) (l m : Option (List ℕ)) (ended : Bool) (f g : ℕ) (t u : Option (List ℕ)) (stop : Stop) (xs ys : List Rec) (number : ℕ) (kept : List Rec)
-    → HasRead j.version l m ended stop xs → IsMeant j.does j.tasks j.keep j.net xs ys number kept → AppendsPrefix t u (text ys) → HasBegun j (streams l m ended f g t u)
-HasBegun-read j l m ended f g t u stop xs ys number kept read meant some =
-    HasBegun-prefix j l m ended f g t u read.got ys read.reads (Answers-read j l m ended stop xs ys number kept read meant f g t u) some
+pub IsCutShort-read : {N : Type 0} (j : Job N) (l m : Option (List ℕ)) (ended : Bool) (f g : ℕ) (t u : Option (List ℕ)) (stop : Stop) (xs ys : List Rec) (number : ℕ) (kept : List Rec)
+    → HasRead j.version l m ended stop xs → IsMeant j.does j.tasks j.keep j.net xs ys number kept → AppendsPrefix t u (text ys) → IsCutShort j (streams l m ended f g t u)
+IsCutShort-read j l m ended f g t u stop xs ys number kept read meant some =
+    record { got = read.got; reads = read.reads; sent = ys; answers = Answers-read j l m ended stop xs ys number kept read meant f g t u; writes = some }
 
 -- all of it was written
 HasRun-read : {N : Type 0} (j : Job N) (l m : Option (List ℕ)) (ended : Bool) (f g : ℕ) (t u : Option (List ℕ)) (stop : Stop) (xs ys : List Rec) (report : Report) (Cause : List ℕ → Type 0)
@@ -86,10 +86,10 @@ Ran-read j l m ended f g t u Read xs ys report read meant written = HasRun-read 
 Ran-read j l m ended f g t u (Line fault) xs ys report read meant written = HasRun-read j l m ended f g t u (Line fault) xs ys report _ read meant written read.stops.0
 
 -- a run that broke off at a write
-pub Ran-halted : {N : Type 0} (j : Job N) (l m : Option (List ℕ)) (ended : Bool) (f g : ℕ) (t u : Option (List ℕ)) (halt : Halt) → HasBegun j (streams l m ended f g t u)
+pub Ran-halted : {N : Type 0} (j : Job N) (l m : Option (List ℕ)) (ended : Bool) (f g : ℕ) (t u : Option (List ℕ)) (halt : Halt) → IsCutShort j (streams l m ended f g t u)
     → Ran j (streams l m ended f g t u) (Err (halted halt))
-Ran-halted j l m ended f g t u Write begun = begun
-Ran-halted j l m ended f g t u NoMemory begun = begun
+Ran-halted j l m ended f g t u Write cut = cut
+Ran-halted j l m ended f g t u NoMemory cut = HasBegun-cut j (streams l m ended f g t u) cut
 
 -- what a run that wasn't over its limit gave
 pub IsMeant-done : {N : Type 0} (j : Job N) (xs : List Rec) (outcome : Outcome) (ys : List Rec) (number : ℕ) (kept : List Rec) → Answered j.does j.tasks j.keep j.net xs outcome

@@ -1,6 +1,7 @@
 -- How a run of a network over an input ends: what was read and written at each answer, and which count of faults rose.
 use Rattle.std.specs.Prelude.{◌≡◌, ℕ, Bool, true, false, List, ◌⊎◌, None, Some, IsSome, Result, Ok, Err}
 use Rattle.std.specs.Io.KnownBytes.{Appends, Consumes, Keeps, IsAtEnd}
+use Rattle.ff_io.specs.Bytes.{AppendsPrefix}
 use Rattle.ff_io.specs.Faults.{more, Rose}
 use Rattle.ff_rec.specs.Lines.{Rec, text}
 use Rattle.ff_node.specs.Behaviour.{Behaviour}
@@ -44,6 +45,14 @@ pub record HasRun {N : Type 0} (j : Job N) (s : Streams) (report : Report) (Caus
   pub reports : IsReported j (records_of j s got) report
   pub cause : Cause got
 
+-- it was cut short while it wrote: of the text of an answer the first bytes were taken
+pub record IsCutShort {N : Type 0} (j : Job N) (s : Streams) : Type 0 where
+  pub got : List ℕ
+  pub reads : Consumes s.left s.left_now got
+  pub sent : List Rec
+  pub answers : Answers j.does j.tasks j.net (records_of j s got) sent
+  pub writes : AppendsPrefix s.taken s.taken_now (text sent)
+
 -- it began to run, and the beginning of an answer's text was taken
 pub record HasBegun {N : Type 0} (j : Job N) (s : Streams) : Type 0 where
   pub got : List ℕ
@@ -68,7 +77,7 @@ pub record IsOverrun {N : Type 0} (j : Job N) (s : Streams) : Type 0 where
 abbrev pub Ran : {N : Type 0} → Job N → Streams → Result Report RunFault → Type 0
 Ran j s (Ok report) = HasRun j s report (λ got. (limit_by j.version got ≡ None) × (s.ended ≡ true) × IsAtEnd s.left_now)
 Ran j s (Err Tasks) = IsOverrun j s
-Ran j s (Err Write) = HasBegun j s
+Ran j s (Err Write) = IsCutShort j s
 Ran j s (Err (Read report)) = HasRun j s report (λ got. (limit_by j.version got ≡ None) × (s.ended ≡ false))
 Ran j s (Err (Line fault report)) = HasRun j s report (λ got. limit_by j.version got ≡ Some fault)
 Ran j s (Err NoMemory) = HasBegun j s

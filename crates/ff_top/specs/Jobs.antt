@@ -7,7 +7,7 @@ use Rattle.ff_net.specs.Tree.{Tree}
 use Rattle.ff_net.specs.Versions.{limit_by}
 use Rattle.ff_ops.specs.Operation.{OpState, op_node}
 use Rattle.ff_rec.specs.Lines.{Rec, text}
-use Rattle.ff_single.specs.Endings.{Job, job, HasRun, HasBegun, IsOverrun, IsReadOut}
+use Rattle.ff_single.specs.Endings.{Job, job, HasRun, HasBegun, IsCutShort, IsOverrun, IsReadOut}
 use Rattle.ff_stream.specs.declared.report.Report.{Report}
 use Rattle.ff_text.specs.NetPrinting.{printed_described}
 use Rattle.ff_top.specs.Outside.{Scene, streams_of}
@@ -49,7 +49,7 @@ Ran j rejects s (Err (Read n)) = HasStored j rejects s n (λ got. (limit_by j.ve
 Ran j rejects s (Err (Line fault n)) = HasStored j rejects s n (λ got. limit_by j.version got ≡ Some fault)
 Ran j rejects s (Err (Rejects name n)) = HasLost j rejects s name n
 Ran j rejects s (Err (Tasks m)) = (m ≡ j.tasks) × IsOverrun j (streams_of s) × KeepsAll s.before.told s.now.told
-Ran j rejects s (Err Write) = HasBegun j (streams_of s) × KeepsAll s.before.told s.now.told
+Ran j rejects s (Err Write) = IsCutShort j (streams_of s) × KeepsAll s.before.told s.now.told
 Ran j rejects s (Err NoMemory) = HasBegun j (streams_of s) × KeepsBut rejects s.before.told s.now.told
 Ran j rejects s (Err Usage) = ⊥
 Ran j rejects s (Err (File name)) = ⊥

@@ -2,7 +2,7 @@
 use Rattle.std.proofs.lemmas.Result.{err_from_is_err_and}
 use Rattle.ff_net.specs.Tree.{tree_of}
 use Rattle.ff_single.specs.Endings.{job}
-use Rattle.ff_single.proofs.Wholes.{HasBegun-taken, Takes-read, IsOverrun-read, HasBegun-read, Ran-read, Ran-halted, HasRead-by, IsMeant-done, not-fine}
+use Rattle.ff_single.proofs.Wholes.{HasBegun-taken, Takes-read, IsOverrun-read, IsCutShort-read, Ran-read, Ran-halted, HasRead-by, IsMeant-done, not-fine}
 use Rattle.ff_single.proofs.run.run_whole.Goals as goal
 
 pub returns-in_err-run_one-clause-run : goal.returns-in_err-run_one-clause-run
@@ -19,7 +19,7 @@ returns-in_err-write_records-in-Done-clause-run g c =
     let meant = IsMeant-done j c.in_ok-input.input.records _ c.in-Done.sent c.in-Done.rejected c.in-Done.refused c.in_ok-run_one.ensures c.in-Done.is in
     rw (p.1, p.2)
     (Ran-halted j _ _ _ _ _ _ _ c.in_err-write_records-in-Done.field-0.0
-    (HasBegun-read j _ _ _ _ _ _ _ c.in_ok-input.input.stop c.in_ok-input.input.records c.in-Done.sent c.in-Done.rejected c.in-Done.refused
+    (IsCutShort-read j _ _ _ _ _ _ _ c.in_ok-input.input.stop c.in_ok-input.input.records c.in-Done.sent c.in-Done.rejected c.in-Done.refused
     read meant c.in_err-write_records-in-Done.ensures.prefix))
 
 pub returns-in-Over-clause-run : goal.returns-in-Over-clause-run
