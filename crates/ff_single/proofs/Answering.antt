@@ -1,9 +1,6 @@
 -- What is sent as an answer of a network.
-use Rattle.std.proofs.Common.{◌≡◌, ℕ, Bool, true, false, List, inr, sym}
-use Rattle.std.specs.Prelude.{Option}
-use Rattle.std.specs.Io.KnownBytes.{Consumes}
-use Rattle.ff_io.specs.Bytes.{AppendsPrefix}
-use Rattle.ff_rec.specs.Lines.{Rec, text}
+use Rattle.std.proofs.Common.{◌≡◌, Bool, true, false, List, inr, sym}
+use Rattle.ff_rec.specs.Lines.{Rec}
 use Rattle.ff_rec.specs.Weights.{Same}
 use Rattle.ff_rec.proofs.WeightLaws.{Same-≡, Same-trans}
 use Rattle.ff_node.specs.Sends.{kept_of}
@@ -25,7 +22,7 @@ Answers-mean j xs ys fine is = record { fine = fine; same = SameInOrder-≡ (is_
 -- what was cut short had begun
 pub HasBegun-cut : {N : Type 0} (j : Job N) (s : Streams) → IsCutShort j s → HasBegun j s
 HasBegun-cut j s cut =
-    record { got = cut.got; reads = cut.reads; front = cut.writes.front; begins = inr (cut.sent, cut.writes.back, cut.answers, sym cut.writes.splits); writes = cut.writes.appends }
+    record { got = cut.got; reads = cut.reads; front = cut.writes.front; begins = inr (cut.sent, cut.writes.back, cut.answers, sym cut.writes.splits); writes = cut.writes.appends; waits = λ wraps. inr (cut.waits wraps) }
 
 -- the rejects that are kept of those of a node
 pub AreKept-kept_of : (keep : Bool) (losses rejects kept : List Rec) → Same losses rejects → kept ≡ kept_of keep rejects → AreKept keep losses kept

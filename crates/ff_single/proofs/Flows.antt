@@ -1,5 +1,5 @@
 -- How a run of a network ends that one node stands for.
-use Rattle.std.proofs.Common.{◌≡◌, ℕ, Bool, List, [], ◌∷◌, ◌++◌, Ok, Err, refl, sym, ap, ◌∙◌, append-nil, map, length, length-append, arith}
+use Rattle.std.proofs.Common.{◌≡◌, ℕ, Bool, true, false, List, [], ◌∷◌, ◌++◌, Ok, Err, refl, sym, ap, ◌∙◌, append-nil, map, length, length-append, arith}
 use Rattle.std.specs.Prelude.{Option, Result}
 use Rattle.std.specs.Io.KnownBytes.{Consumes}
 use Rattle.ff_io.specs.Bytes.{AppendsPrefix}
@@ -8,6 +8,7 @@ use Rattle.ff_rec.proofs.WeightLaws.{Same-≡, Same-trans, Same-sym, Same-length
 use Rattle.ff_node.specs.Behaviour.{Behaviour, KeepsKind, node, refused, line, line_refused, sent_from, refused_from}
 use Rattle.ff_node.specs.Comb.{running, nodes_of, comb_node, CombIsLine}
 use Rattle.ff_node.specs.Sends.{counted}
+use Rattle.ff_net.specs.Forms.{has_wrap}
 use Rattle.ff_net.specs.Meaning.{Answers}
 use Rattle.ff_net.specs.Tree.{Tree}
 use Rattle.ff_net.specs.Versions.{line_bytes, seen_by}
@@ -41,8 +42,9 @@ module _ {N : Type 0} (b : Behaviour N) (kind : KeepsKind b) where
   only-last (n ∷ front) items o is one = absurd (omega (arith, one, ap length is, length-append front (o ∷ [])))
 
   -- a network that is a line of one node
-  pub IsNodeOf-one : (t : Tree N) (items : List N) (o : N) → IsLine b t → items ≡ map b.opening (nodes_in t) → items ≡ o ∷ [] → IsNodeOf b t b o
-  IsNodeOf-one t items o lined copied one = record {
+  pub IsNodeOf-one : (t : Tree N) (items : List N) (o : N) → has_wrap t ≡ false → IsLine b t → items ≡ map b.opening (nodes_in t) → items ≡ o ∷ [] → IsNodeOf b t b o
+  IsNodeOf-one t items o no_wrap lined copied one = record {
+    no_wrap = no_wrap;
     fine = lined.fine;
     sends = λ m xs. ap (λ (os : List N). line b os xs) (sym one ∙ copied) ∙ line-opened (nodes_in t) xs ∙ sym (lined.mean m xs);
     rejects = λ m xs. Same-≡ _ _ (lined.lost m xs ∙ sym (line_refused-opened (nodes_in t) xs) ∙ ap (λ (os : List N). line_refused b os xs) (sym copied ∙ one) ∙ append-nil (refused b o xs));
@@ -54,8 +56,9 @@ module _ {N : Type 0} (b : Behaviour N) (kind : KeepsKind b) where
   nodes_of-running (o ∷ os) = ap (λ (l : List N). o ∷ l) (nodes_of-running os)
 
   -- a network that is a line of nodes, as the comb of these
-  pub IsNodeOf-comb : (t : Tree N) (items : List N) → IsLine b t → CombIsLine b → items ≡ map b.opening (nodes_in t) → IsNodeOf b t (comb_node b) (running items)
-  IsNodeOf-comb t items lined combed copied = record {
+  pub IsNodeOf-comb : (t : Tree N) (items : List N) → has_wrap t ≡ false → IsLine b t → CombIsLine b → items ≡ map b.opening (nodes_in t) → IsNodeOf b t (comb_node b) (running items)
+  IsNodeOf-comb t items no_wrap lined combed copied = record {
+    no_wrap = no_wrap;
     fine = lined.fine;
     sends = λ m xs. (combed (running items) xs).0 ∙ ap (λ (os : List N). line b os xs) (nodes_of-running items ∙ copied) ∙ line-opened (nodes_in t) xs ∙ sym (lined.mean m xs);
     rejects = λ m xs. Same-trans
@@ -89,7 +92,7 @@ module _ {N S : Type 0} (does : Behaviour N) (t : Tree N) (b : Behaviour S) (o :
   IsCutShort-told : (l m : Option (List ℕ)) (ended : Bool) (f g : ℕ) (before now : Option (List ℕ)) (got : List ℕ) → Consumes l m got
       → AppendsPrefix before now (text (node b o (seen_by v got ended))) → IsCutShort (job does t v limit keep) (streams l m ended f g before now)
   IsCutShort-told l m ended f g before now got read told =
-      record { got = got; reads = read; sent = node b o (seen_by v got ended); answers = Answers-node (seen_by v got ended); writes = told }
+      record { got = got; reads = read; sent = node b o (seen_by v got ended); answers = Answers-node (seen_by v got ended); writes = told; waits = λ wraps. absurd (let both : true ≡ false = sym wraps ∙ stands.no_wrap in cc) }
 
   pub Ran-streamed : (l m : Option (List ℕ)) (ended : Bool) (f g : ℕ) (before now : Option (List ℕ)) (answer : Result Report StreamFault)
       → HasStreamed b o (line_bytes v) keep l m ended before now answer → EndsWith answer m ended → Ran (job does t v limit keep) (streams l m ended f g before now) (ending_of answer)

@@ -1,5 +1,5 @@
 -- How a run ends that read its whole input first.
-use Rattle.std.proofs.Common.{◌≡◌, ℕ, Bool, List, [], Err, inl, inr, refl, sym, subst, arith}
+use Rattle.std.proofs.Common.{◌≡◌, ℕ, Bool, List, [], Err, inl, inr, refl, sym, subst}
 use Rattle.std.specs.Prelude.{Option, IsSome}
 use Rattle.std.specs.Io.KnownBytes.{Appends}
 use Rattle.std.proofs.KnownBytes.{Appends-nil, Keeps-refl}
@@ -25,7 +25,7 @@ use Rattle.ff_single.proofs.Answering.{Answers-mean, HasBegun-cut}
 
 -- some bytes were read, and none were written
 pub HasBegun-taken : {N : Type 0} (j : Job N) (l m : Option (List ℕ)) (ended : Bool) (f g : ℕ) (t : Option (List ℕ)) → Takes l m → HasBegun j (streams l m ended f g t t)
-HasBegun-taken j l m ended f g t some = record { got = some.got; reads = some.reads; front = []; begins = inl refl; writes = Appends-nil t }
+HasBegun-taken j l m ended f g t some = record { got = some.got; reads = some.reads; front = []; begins = inl refl; writes = Appends-nil t; waits = λ wraps. inl refl }
 
 pub Takes-read : {v : _} {l m : _} {ended : _} {stop : _} {xs : _} → HasRead v l m ended stop xs → Takes l m
 Takes-read read = record { got = read.got; reads = read.reads }
@@ -35,11 +35,11 @@ pub HasRead-by : (v w : Version) (l m : Option (List ℕ)) (ended : Bool) (stop 
 HasRead-by v w l m ended stop xs is read = subst (λ (u : Version). HasRead u l m ended stop xs) is read
 
 -- why no more was read
-IsReadOut-stopped : {N : Type 0} (j : Job N) (l m : Option (List ℕ)) (ended : Bool) (f g : ℕ) (t : Option (List ℕ)) (stop : Stop) (got : List ℕ)
-    → Stopped stop (limit_by j.version got) ended m → g ≡ stop_count f stop → IsReadOut j (streams l m ended f g t t) got
-IsReadOut-stopped j l m ended f g t End got stops counts = inr (inl (stops.1, stops.2))
-IsReadOut-stopped j l m ended f g t Read got stops counts = inr (inr (omega (arith, counts)))
-IsReadOut-stopped j l m ended f g t (Line fault) got stops counts = inl (subst (λ (o : Option LineFault). IsSome o) (sym stops.0) refl)
+IsReadOut-stopped : {N : Type 0} (j : Job N) (l m : Option (List ℕ)) (ended : Bool) (f g : ℕ) (t u : Option (List ℕ)) (stop : Stop) (got : List ℕ)
+    → Stopped stop (limit_by j.version got) ended m → g ≡ stop_count f stop → IsReadOut j (streams l m ended f g t u) got
+IsReadOut-stopped j l m ended f g t u End got stops counts = inr (inl (stops.0, stops.1, stops.2, counts))
+IsReadOut-stopped j l m ended f g t u Read got stops counts = inr (inr (stops.0, stops.1, counts))
+IsReadOut-stopped j l m ended f g t u (Line fault) got stops counts = inl (subst (λ (o : Option LineFault). IsSome o) (sym stops.0) refl, counts)
 
 -- a wrap has too many tasks for what was read
 pub IsOverrun-read : {N : Type 0} (j : Job N) (l m : Option (List ℕ)) (ended : Bool) (f g : ℕ) (t : Option (List ℕ)) (stop : Stop) (xs : List Rec) → HasRead j.version l m ended stop xs
@@ -49,7 +49,7 @@ IsOverrun-read j l m ended f g t stop xs read over counts = record {
   reads = read.reads;
   over = subst (λ (l : List Rec). Fine j.does j.tasks j.net l → ⊥) read.records over;
   untouched = Keeps-refl t;
-  read_out = IsReadOut-stopped j l m ended f g t stop read.got read.stops counts;
+  read_out = IsReadOut-stopped j l m ended f g t t stop read.got read.stops counts;
 }
 
 -- what the network means for what was read is an answer
@@ -60,9 +60,15 @@ Answers-read j l m ended stop xs ys number kept read meant f g t u =
 
 -- a prefix of it was written
 pub IsCutShort-read : {N : Type 0} (j : Job N) (l m : Option (List ℕ)) (ended : Bool) (f g : ℕ) (t u : Option (List ℕ)) (stop : Stop) (xs ys : List Rec) (number : ℕ) (kept : List Rec)
-    → HasRead j.version l m ended stop xs → IsMeant j.does j.tasks j.keep j.net xs ys number kept → AppendsPrefix t u (text ys) → IsCutShort j (streams l m ended f g t u)
-IsCutShort-read j l m ended f g t u stop xs ys number kept read meant some =
-    record { got = read.got; reads = read.reads; sent = ys; answers = Answers-read j l m ended stop xs ys number kept read meant f g t u; writes = some }
+    → HasRead j.version l m ended stop xs → IsMeant j.does j.tasks j.keep j.net xs ys number kept → AppendsPrefix t u (text ys) → g ≡ stop_count f stop → IsCutShort j (streams l m ended f g t u)
+IsCutShort-read j l m ended f g t u stop xs ys number kept read meant some counts = record {
+  got = read.got;
+  reads = read.reads;
+  sent = ys;
+  answers = Answers-read j l m ended stop xs ys number kept read meant f g t u;
+  writes = some;
+  waits = λ wraps. IsReadOut-stopped j l m ended f g t u stop read.got read.stops counts;
+}
 
 -- all of it was written
 HasRun-read : {N : Type 0} (j : Job N) (l m : Option (List ℕ)) (ended : Bool) (f g : ℕ) (t u : Option (List ℕ)) (stop : Stop) (xs ys : List Rec) (report : Report) (Cause : List ℕ → Type 0)

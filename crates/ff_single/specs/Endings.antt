@@ -1,10 +1,11 @@
 -- How a run of a network over an input ends: what was read and written at each answer, and which count of faults rose.
-use Rattle.std.specs.Prelude.{◌≡◌, ℕ, Bool, true, false, List, ◌⊎◌, None, Some, IsSome, Result, Ok, Err}
+use Rattle.std.specs.Prelude.{◌≡◌, ℕ, Bool, true, false, List, [], ◌⊎◌, None, Some, IsSome, Result, Ok, Err}
 use Rattle.std.specs.Io.KnownBytes.{Appends, Consumes, Keeps, IsAtEnd}
 use Rattle.ff_io.specs.Bytes.{AppendsPrefix}
-use Rattle.ff_io.specs.Faults.{more, Rose}
+use Rattle.ff_io.specs.Faults.{more}
 use Rattle.ff_rec.specs.Lines.{Rec, text}
 use Rattle.ff_node.specs.Behaviour.{Behaviour}
+use Rattle.ff_net.specs.Forms.{has_wrap}
 use Rattle.ff_net.specs.Meaning.{Answers, Begins, Fine, lost, lost_count}
 use Rattle.ff_net.specs.Tree.{Tree}
 use Rattle.ff_net.specs.Versions.{limit_by, seen_by}
@@ -45,25 +46,31 @@ pub record HasRun {N : Type 0} (j : Job N) (s : Streams) (report : Report) (Caus
   pub reports : IsReported j (records_of j s got) report
   pub cause : Cause got
 
--- it was cut short while it wrote: of the text of an answer the first bytes were taken
+-- why no more was read, and how the count of the input's faults went then: a limit was passed, the input ended, or it failed
+abbrev pub IsReadOut : {N : Type 0} → Job N → Streams → List ℕ → Type 0
+IsReadOut j s got =
+    (IsSome (limit_by j.version got) × (s.faults_now ≡ s.faults))
+    ⊎ (((limit_by j.version got ≡ None) × (s.ended ≡ true) × IsAtEnd s.left_now × (s.faults_now ≡ s.faults))
+    ⊎ ((limit_by j.version got ≡ None) × (s.ended ≡ false) × (s.faults_now ≡ more s.faults)))
+
+-- It was cut short while it wrote: of the text of an answer the first bytes were taken. With a wrap nothing is written
+-- before all was read.
 pub record IsCutShort {N : Type 0} (j : Job N) (s : Streams) : Type 0 where
   pub got : List ℕ
   pub reads : Consumes s.left s.left_now got
   pub sent : List Rec
   pub answers : Answers j.does j.tasks j.net (records_of j s got) sent
   pub writes : AppendsPrefix s.taken s.taken_now (text sent)
+  pub waits : has_wrap j.net ≡ true → IsReadOut j s got
 
--- it began to run, and the beginning of an answer's text was taken
+-- It began to run, and the beginning of an answer's text was taken. With a wrap nothing is written before all was read.
 pub record HasBegun {N : Type 0} (j : Job N) (s : Streams) : Type 0 where
   pub got : List ℕ
   pub reads : Consumes s.left s.left_now got
   pub front : List ℕ
   pub begins : Begins j.does j.tasks j.net (records_of j s got) front
   pub writes : Appends s.taken s.taken_now front
-
--- why no more was read: a limit was passed, the input ended, or it failed
-abbrev pub IsReadOut : {N : Type 0} → Job N → Streams → List ℕ → Type 0
-IsReadOut j s got = IsSome (limit_by j.version got) ⊎ (((s.ended ≡ true) × IsAtEnd s.left_now) ⊎ Rose s.faults s.faults_now)
+  pub waits : has_wrap j.net ≡ true → (front ≡ []) ⊎ IsReadOut j s got
 
 -- a wrap has too many tasks for the records of what was read, and nothing was written
 pub record IsOverrun {N : Type 0} (j : Job N) (s : Streams) : Type 0 where

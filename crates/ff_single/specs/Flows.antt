@@ -1,8 +1,9 @@
 -- A network that one node stands for, and how its run over a stream ends.
-use Rattle.std.specs.Prelude.{◌≡◌, ℕ, List, Result, Ok, Err}
+use Rattle.std.specs.Prelude.{◌≡◌, ℕ, false, List, Result, Ok, Err}
 use Rattle.ff_rec.specs.Lines.{Rec}
 use Rattle.ff_rec.specs.Weights.{Same}
 use Rattle.ff_node.specs.Behaviour.{Behaviour, node, refused}
+use Rattle.ff_net.specs.Forms.{has_wrap}
 use Rattle.ff_net.specs.Meaning.{mean, Fine, lost}
 use Rattle.ff_net.specs.Tree.{Tree}
 use Rattle.ff_stream.specs.declared.report.Report.{Report}
@@ -11,8 +12,9 @@ use Rattle.ff_stream.specs.declared.report.StreamFault.TheVariants.{Write as Str
 use Rattle.ff_single.specs.declared.fault.RunFault.{RunFault}
 use Rattle.ff_single.specs.declared.fault.RunFault.TheVariants.{Write, Read, Line, NoMemory}
 
--- the network means what this node sends, loses what it rejects, and is never over a limit
+-- the network means what this node sends, loses what it rejects, has no wrap, and so is never over a limit
 pub record IsNodeOf {N S : Type 0} (does : Behaviour N) (net : Tree N) (b : Behaviour S) (o : S) : Type 0 where
+  pub no_wrap : has_wrap net ≡ false
   pub fine : (m : ℕ) (xs : List Rec) → Fine does m net xs
   pub sends : (m : ℕ) (xs : List Rec) → node b o xs ≡ mean does m net xs
   pub rejects : (m : ℕ) (xs : List Rec) → Same (lost does m net xs) (refused b o xs)

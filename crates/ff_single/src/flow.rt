@@ -38,7 +38,7 @@ pub(crate) fn run_line<N: Node, I: Source, O: Sink>(
     networks_without_feedback_are_lines(&nodes[0]);
     comb_is_composition(&nodes[0]);
     match nodes.len() {
-        // A comb round one node would move each record twice for nothing.
+        // A comb round one node would move each record through a queue for nothing.
         1 => match nodes.pop() {
             Some(node) => run_as(alloc, checked, node, keep, source, sink),
             None => unreachable!(),

@@ -62,12 +62,12 @@ module _ (law : ReadingLaw) (one : SpellingIsOfOneNet) (words : List (List ℕ))
       let input = known s.before.left _ within in
       let bytes = input.0 in
       elim o.read_out [
-        | inl passed ↦ (let f = some_of (limit_by version o.got) passed in
+        | inl passed ↦ (let f = some_of (limit_by version o.got) passed.0 in
             None-Some (limit_by version bytes) f.0 input.2.0 (limited law s.before.left s.now.left o.got bytes f.0 o.reads f.1 input.1))
         | inr other ↦ elim other [
-          | inl end ↦ (let same = whole s.before.left s.now.left o.got bytes o.reads end.1 input.1 in
-              o.over (subst (λ xs. Fine op_node tasks t xs) (sym (at_end t tasks o.got bytes same end.0)) input.2.1))
-          | inr rose ↦ quiet.input rose
+          | inl end ↦ (let same = whole s.before.left s.now.left o.got bytes o.reads end.2 input.1 in
+              o.over (subst (λ xs. Fine op_node tasks t xs) (sym (at_end t tasks o.got bytes same end.1)) input.2.1))
+          | inr failed ↦ quiet.input (Rose-more s.before.input_faults s.now.input_faults failed.2)
         ]
       ]
 

@@ -14,7 +14,6 @@ use Rattle.ff_single.specs.Streams.{Streams}
 use Rattle.ff_single.specs.declared.fault.RunFault.{RunFault}
 use Rattle.ff_single.specs.declared.fault.RunFault.TheVariants as run
 use Rattle.ff_stream.specs.declared.report.Report.{Report}
-use Rattle.ff_top.proofs.Accepted.{Rose-more}
 use Rattle.ff_top.specs.Endings.{CountsInput, output_count}
 use Rattle.ff_single.specs.Endings.{output_count as write_count}
 use Rattle.ff_top.specs.Finishing.{Closes, Finished}
@@ -25,13 +24,14 @@ use Rattle.ff_top.specs.declared.fault.Fault.{Fault}
 use Rattle.ff_top.specs.declared.fault.Fault.TheVariants.{Read, Line}
 
 -- a run that came to its end began
-HasBegun-run : (j : Job OpState) (s : Streams) (report : Report) (Cause : List ℕ → Type 0) → HasRun j s report Cause → HasBegun j s
-HasBegun-run j s report Cause r = record {
+HasBegun-run : (j : Job OpState) (s : Streams) (report : Report) (Cause : List ℕ → Type 0) → ((got : List ℕ) → Cause got → IsReadOut j s got) → HasRun j s report Cause → HasBegun j s
+HasBegun-run j s report Cause out r = record {
   got = r.got;
   reads = r.reads;
   front = text r.sent;
   begins = inr (r.sent, [], r.answers, append-nil (text r.sent));
   writes = r.writes;
+  waits = λ wraps. inr (out r.got r.cause);
 }
 
 -- the same run, with another fact of what was read
@@ -68,7 +68,7 @@ module _ (t : Tree OpState) (tasks : ℕ) (rejects : Option (List ℕ)) (s : Sce
         others = failed.others;
       })
       | inr short ↦ subst (λ (a : Result ℕ Fault). Ran (run_job t tasks rejects) rejects s a) (sym short.0)
-          (HasBegun-run (run_job t tasks rejects) (streams_of s) report Cause r, short.1)
+          (HasBegun-run (run_job t tasks rejects) (streams_of s) report Cause out r, short.1)
     ]
   ]
 
@@ -78,17 +78,17 @@ module _ (t : Tree OpState) (tasks : ℕ) (rejects : Option (List ℕ)) (s : Sce
   pub Ran-finished : (over : Result Report RunFault) (answer : Result ℕ Fault) → RanOver (run_job t tasks rejects) (streams_of s) over
       → CountsRead s.before.input_faults s.now.input_faults over → Finished tasks rejects over s.before.told s.now.told answer → Ran (run_job t tasks rejects) rejects s answer
   Ran-finished (Ok report) answer r counts finished =
-      Ran-closed report _ (Ok report.rejected) answer r (λ got cause. inr (inl (cause.1, cause.2)))
+      Ran-closed report _ (Ok report.rejected) answer r (λ got cause. inr (inl (cause.0, cause.1, cause.2, counts)))
       (λ stored. record { report = report; ran = r; rejected = refl; stored = stored }) finished
   Ran-finished (Err run.Tasks) answer r counts finished =
       subst (λ (a : Result ℕ Fault). Ran (run_job t tasks rejects) rejects s a) (sym finished.0) (refl, r, finished.1)
   Ran-finished (Err run.Write) answer r counts finished =
       subst (λ (a : Result ℕ Fault). Ran (run_job t tasks rejects) rejects s a) (sym finished.0) (r, finished.1)
   Ran-finished (Err (run.Read report)) answer r counts finished =
-      Ran-closed report _ (Err (Read report.rejected)) answer r (λ got cause. inr (inr (Rose-more s.before.input_faults s.now.input_faults counts)))
+      Ran-closed report _ (Err (Read report.rejected)) answer r (λ got cause. inr (inr (cause.0, cause.1, counts)))
       (λ stored. record { report = report; ran = r; rejected = refl; stored = stored }) finished
   Ran-finished (Err (run.Line fault report)) answer r counts finished =
-      Ran-closed report _ (Err (Line fault report.rejected)) answer r (λ got cause. inl (some_limit fault (limit_by version got) cause))
+      Ran-closed report _ (Err (Line fault report.rejected)) answer r (λ got cause. inl (some_limit fault (limit_by version got) cause, counts))
       (λ stored. record { report = report; ran = r; rejected = refl; stored = stored }) finished
   Ran-finished (Err run.NoMemory) answer r counts finished =
       subst (λ (a : Result ℕ Fault). Ran (run_job t tasks rejects) rejects s a) (sym finished.0) (r, KeepsBut-all rejects s.before.told s.now.told finished.1)

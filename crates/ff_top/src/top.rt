@@ -14,8 +14,8 @@ use ff_rec::reading_is_cutting;
 use ff_text::networks_spelled_alike_are_the_same;
 use std::alloc::Global;
 
-/// Does what the words say, and answers the status that the process ends with. The message of each status other than 0
-/// goes to `err`; a failing `err` changes no status.
+/// Does what the words say, and answers the status that the process ends with. What is said of it goes to `err`: the
+/// message of each status other than 0, and the number of rejected records. Where `err` fails, the status is the same.
 pub fn ffrun<F: Files, I: Source, O: Sink, E: Sink>(
     alloc: Global,
     words: &[String],

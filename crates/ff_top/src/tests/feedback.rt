@@ -178,6 +178,8 @@ fn devices_fail_round_a_wrap(rt: HostRuntime) -> Result<(), Fail> {
             b"ffrun: read fault\nffrun: 1 rejected\n".as_slice(),
         ),
         ("1", 2, 100, 3, b"", b"ffrun: more than 1 tasks\n"),
+        // Nothing is written then, so an output that takes nothing doesn't show.
+        ("1", 0, 0, 3, b"", b"ffrun: more than 1 tasks\n"),
         ("5", 0, 3, 4, b"1\n1", b"ffrun: write fault\n"),
         ("5", 2, 3, 4, b"1\n1", b"ffrun: write fault\n"),
     ] {

@@ -1,9 +1,15 @@
--- It broke off while it computed or wrote, a wrap has too many tasks, or all was written.
+-- It broke off while it read, computed or wrote, a wrap has too many tasks, or all was written.
 use Rattle.std.proofs.lemmas.Result.{err_from_is_err_and}
 use Rattle.ff_net.specs.Tree.{tree_of}
 use Rattle.ff_single.specs.Endings.{job}
 use Rattle.ff_single.proofs.Wholes.{HasBegun-taken, Takes-read, IsOverrun-read, IsCutShort-read, Ran-read, Ran-halted, HasRead-by, IsMeant-done, not-fine}
 use Rattle.ff_single.proofs.run.run_whole.Goals as goal
+
+pub returns-in_err-input-clause-run : goal.returns-in_err-input-clause-run
+returns-in_err-input-clause-run g c =
+    let p = err_from_is_err_and c.from_residual.result c.from_residual.ensures.1 in
+    let j = job g.N.Node.does (tree_of c.args.checked.now.net) c.args.checked.now.version c.args.limit c.args.keep in
+    rw (p.1, p.2) (HasBegun-taken j _ _ _ _ _ _ c.in_err-input.ensures.err)
 
 pub returns-in_err-run_one-clause-run : goal.returns-in_err-run_one-clause-run
 returns-in_err-run_one-clause-run g c =
@@ -20,7 +26,7 @@ returns-in_err-write_records-in-Done-clause-run g c =
     rw (p.1, p.2)
     (Ran-halted j _ _ _ _ _ _ _ c.in_err-write_records-in-Done.field-0.0
     (IsCutShort-read j _ _ _ _ _ _ _ c.in_ok-input.input.stop c.in_ok-input.input.records c.in-Done.sent c.in-Done.rejected c.in-Done.refused
-    read meant c.in_err-write_records-in-Done.ensures.prefix))
+    read meant c.in_err-write_records-in-Done.ensures.prefix c.in_ok-input.ensures.counts))
 
 pub returns-in-Over-clause-run : goal.returns-in-Over-clause-run
 returns-in-Over-clause-run g c =
