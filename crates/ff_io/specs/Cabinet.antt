@@ -1,7 +1,7 @@
 -- Files in memory, of which every answer is known.
 use Rattle.std.specs.Prelude.{◌≡◌, ℕ, ◌||◌, List, [], ◌∷◌, map, None, Some, is_none, is_err, if◌then◌else◌, Result, Ok, Err, Vec, String, string_bytes}
 use Rattle.std.specs.Str.{bytes_eq}
-use Rattle.ff_io.specs.Faults.{more, counted}
+use Rattle.ff_io.specs.Faults.{more, count_after}
 use Rattle.ff_io.specs.Files.{Holdings, load_fault, store_fault}
 use Rattle.ff_io.specs.Memory.{fails_next}
 use Rattle.ff_io.specs.declared.files.FileFault.{FileFault}
@@ -38,7 +38,7 @@ opened_cabinet files fail = record { files = files; fail = fail; calls = 0; faul
 
 -- after a call, with the files that there are then
 abbrev pub called : {A E : Type 0} → Cabinet → Result A E → List Entry → Cabinet
-called s answer files = record { files = files; fail = s.fail; calls = more s.calls; faults = counted s.faults answer }
+called s answer files = record { files = files; fail = s.fail; calls = more s.calls; faults = count_after s.faults answer }
 
 -- what a load answers and leaves: it fails where that call is to fail, or there is no such file
 pub record CabinetLoads {A : Type 0} (s : Cabinet) (name : List ℕ) (answer : Result A FileFault) (t : Cabinet) : Type 0 where

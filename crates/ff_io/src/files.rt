@@ -2,7 +2,7 @@
 ghost use Rattle.std.specs.Prelude.{◌≡◌, ◌<◌, ◌≤◌, ◌↔◌, ℕ, Option, length, IfOk, IfSome, IsErr, OnOk};
 ghost use Rattle.std.specs.IoError.{error_kind};
 ghost use Rattle.std.specs.declared.io.ErrorKind.TheVariants.{OutOfMemory};
-ghost use Rattle.ff_io.specs.Faults.{HasCause, counted};
+ghost use Rattle.ff_io.specs.Faults.{HasCause, count_after};
 ghost use Rattle.ff_io.specs.Files.{Holdings, HoldsBytes, HoldsMore, KeepsAll, KeepsOthers, load_fault, store_fault};
 ghost use Rattle.ff_io.specs.declared.files.FileFault.TheVariants.{TooLong, NoMemory as LoadNoMemory};
 ghost use Rattle.ff_io.specs.declared.files.StoreFault.TheVariants.{NoMemory as StoreNoMemory};
@@ -45,14 +45,14 @@ pub trait Files {
         ensures too_long { result ≡ Err FileFault.TooLong → HoldsMore (told self.old) name.now limit }
         ensures keeps { KeepsAll (told self.old) (told self.new) }
         ensures cause { HasCause (faults self.old) (faults self.new) (load_fault result) }
-        ensures counts { faults self.new ≡ counted (faults self.old) (load_fault result) };
+        ensures counts { faults self.new ≡ count_after (faults self.old) (load_fault result) };
 
     /// Lets a name hold these bytes, and makes the file if there is none. After a refusal nothing is known of the name.
     fn store(&mut self, name: &str, bytes: &[u8]) -> Result<(), StoreFault>
         ensures holds { OnOk result (HoldsBytes (told self.new) name.now bytes.now) }
         ensures others { KeepsOthers (told self.old) (told self.new) name.now }
         ensures cause { HasCause (faults self.old) (faults self.new) (store_fault result) }
-        ensures counts { faults self.new ≡ counted (faults self.old) (store_fault result) };
+        ensures counts { faults self.new ≡ count_after (faults self.old) (store_fault result) };
 }
 
 impl From<AllocError> for FileFault {

@@ -2,7 +2,7 @@
 ghost use Rattle.std.specs.Prelude.{◌≡◌, ◌<◌, ◌≤◌, Some, None, length, position, string_bytes, IfOk, IfSome, IsErr, IsNone, OnErr, OnOk, IsSomeAnd, is_err, is_none};
 ghost use Rattle.std.specs.Str.{bytes_eq};
 ghost use Rattle.ff_io.specs.Cabinet.{CabinetLoads, CabinetStores, entries_of, held, opened_cabinet, with_file};
-ghost use Rattle.ff_io.specs.Faults.{HasCause, counted};
+ghost use Rattle.ff_io.specs.Faults.{HasCause, count_after};
 ghost use Rattle.ff_io.specs.Files.{HoldsBytes, HoldsMore, KeepsAll, KeepsOthers, load_fault, store_fault};
 
 #[cfg(test)]
@@ -33,7 +33,7 @@ impl Model for MemFiles {
 
 impl MemFiles {
     /// The files of this list, by their names; of two with one name the first counts. Each load and each store is a call,
-    /// and the calls with these numbers, counted from 1, fail.
+    /// and the calls with these numbers, count_after from 1, fail.
     pub fn new(list: Vec<(String, Vec<u8>)>, fail: Vec<u64>) -> MemFiles
         ensures { result ≡ opened_cabinet (entries_of list.items) fail.items }
     {
@@ -66,7 +66,7 @@ impl Files for MemFiles {
         ensures too_long { result ≡ Err FileFault.TooLong → HoldsMore (Some (held self.old.files)) name.now limit }
         ensures keeps { KeepsAll (Some (held self.old.files)) (Some (held self.new.files)) }
         ensures cause { HasCause self.old.faults self.new.faults (load_fault result) }
-        ensures counts { self.new.faults ≡ counted self.old.faults (load_fault result) }
+        ensures counts { self.new.faults ≡ count_after self.old.faults (load_fault result) }
         ensures loads { CabinetLoads self.old name.now result self.new }
     {
         self.calls = self.calls.saturating_add(1);
@@ -86,7 +86,7 @@ impl Files for MemFiles {
         ensures holds { OnOk result (HoldsBytes (Some (held self.new.files)) name.now bytes.now) }
         ensures others { KeepsOthers (Some (held self.old.files)) (Some (held self.new.files)) name.now }
         ensures cause { HasCause self.old.faults self.new.faults (store_fault result) }
-        ensures counts { self.new.faults ≡ counted self.old.faults (store_fault result) }
+        ensures counts { self.new.faults ≡ count_after self.old.faults (store_fault result) }
         ensures stores { CabinetStores self.old name.now bytes.now result self.new }
     {
         self.calls = self.calls.saturating_add(1);

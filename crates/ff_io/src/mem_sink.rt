@@ -1,7 +1,7 @@
 // A sink in memory, for tests and for callers of the library.
 ghost use Rattle.std.specs.Prelude.{◌≡◌, ◌<◌, ◌≤◌, Some, length, IfOk};
 ghost use Rattle.std.specs.Io.KnownBytes.{WriteAppends};
-ghost use Rattle.ff_io.specs.Faults.{HasCause, counted};
+ghost use Rattle.ff_io.specs.Faults.{HasCause, count_after};
 ghost use Rattle.ff_io.specs.Memory.{TrayTakes, opened_tray};
 
 use crate::{Failed, Sink};
@@ -31,7 +31,7 @@ impl Model for MemSink {
 }
 
 impl MemSink {
-    /// A sink that takes `budget` bytes in all and then fails each call, and fails the calls with these numbers, counted
+    /// A sink that takes `budget` bytes in all and then fails each call, and fails the calls with these numbers, count_after
     /// from 1. It reserves the budget at once, so that no later call takes memory.
     pub fn new(alloc: Global, budget: usize, fail: Vec<u64>) -> Result<MemSink, NoMemory>
         ensures { IfOk result (λ sink. sink ≡ opened_tray budget fail.items) }
@@ -64,7 +64,7 @@ impl Sink for MemSink {
         ensures within { IfOk result (λ n. n ≤ length piece.now) }
         ensures bytes { WriteAppends (Some self.old.bytes) (Some self.new.bytes) result piece.now }
         ensures cause { HasCause self.old.faults self.new.faults result }
-        ensures counts { self.new.faults ≡ counted self.old.faults result }
+        ensures counts { self.new.faults ≡ count_after self.old.faults result }
         ensures takes { TrayTakes self.old result piece.now self.new }
     {
         self.calls = self.calls.saturating_add(1);

@@ -2,7 +2,7 @@
 ghost use Rattle.std.specs.Prelude.{◌≡◌, ◌<◌, ◌≤◌, Some, length, IfOk};
 ghost use Rattle.std.specs.Io.KnownBytes.{ReadConsumes};
 ghost use Rattle.ff_io.specs.Bytes.{is_end};
-ghost use Rattle.ff_io.specs.Faults.{HasCause, counted};
+ghost use Rattle.ff_io.specs.Faults.{HasCause, count_after};
 ghost use Rattle.ff_io.specs.Memory.{FeedGives, opened_feed};
 
 use crate::{Failed, Source};
@@ -32,7 +32,7 @@ impl Model for MemSource {
 }
 
 impl MemSource {
-    /// A source that gives at most `most` bytes a call, and fails the calls with these numbers, counted from 1.
+    /// A source that gives at most `most` bytes a call, and fails the calls with these numbers, count_after from 1.
     pub fn new(bytes: Vec<u8>, most: usize, fail: Vec<u64>) -> MemSource
         requires { 1 ≤ most }
         ensures { result ≡ opened_feed bytes.items most fail.items }
@@ -62,7 +62,7 @@ impl Source for MemSource {
         ensures bytes { ReadConsumes (Some self.old.bytes) (Some self.new.bytes) result buf.new }
         ensures ended { self.new.ended ≡ is_end result }
         ensures cause { HasCause self.old.faults self.new.faults result }
-        ensures counts { self.new.faults ≡ counted self.old.faults result }
+        ensures counts { self.new.faults ≡ count_after self.old.faults result }
         ensures gives { FeedGives self.old result buf.new self.new }
     {
         self.calls = self.calls.saturating_add(1);

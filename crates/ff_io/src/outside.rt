@@ -2,7 +2,7 @@
 ghost use Rattle.std.specs.Prelude.{◌≡◌, ◌<◌, ◌≤◌, ℕ, Bool, List, Option, length, IfOk, OnOk};
 ghost use Rattle.std.specs.Io.KnownBytes.{Appends, ReadConsumes, WriteAppends};
 ghost use Rattle.ff_io.specs.Bytes.{AppendsPrefix, is_end};
-ghost use Rattle.ff_io.specs.Faults.{HasCause, counted};
+ghost use Rattle.ff_io.specs.Faults.{HasCause, count_after};
 
 /// The device failed. The count of its faults tells that it did.
 #[derive(Clone, Copy, Debug, PartialEq, Eq, Hash)]
@@ -27,7 +27,7 @@ pub trait Source {
         ensures bytes { ReadConsumes (left self.old) (left self.new) result buf.new }
         ensures ended { ended self.new ≡ is_end result }
         ensures cause { HasCause (faults self.old) (faults self.new) result }
-        ensures counts { faults self.new ≡ counted (faults self.old) result };
+        ensures counts { faults self.new ≡ count_after (faults self.old) result };
 }
 
 /// A stream of bytes that is written in pieces.
@@ -45,7 +45,7 @@ pub trait Sink {
         ensures within { IfOk result (λ n. n ≤ length piece.now) }
         ensures bytes { WriteAppends (taken self.old) (taken self.new) result piece.now }
         ensures cause { HasCause (faults self.old) (faults self.new) result }
-        ensures counts { faults self.new ≡ counted (faults self.old) result };
+        ensures counts { faults self.new ≡ count_after (faults self.old) result };
 }
 
 /// Writes all bytes, in as many calls as the sink wants. After `Failed` it took a prefix of them.
@@ -54,7 +54,7 @@ pub fn write_all<K: Sink>(sink: &mut K, bytes: &[u8]) -> Result<(), Failed>
     ensures all { OnOk result (Appends (K.taken sink.old) (K.taken sink.new) bytes.now) }
     ensures prefix { AppendsPrefix (K.taken sink.old) (K.taken sink.new) bytes.now }
     ensures cause { HasCause (K.faults sink.old) (K.faults sink.new) result }
-    ensures counts { K.faults sink.new ≡ counted (K.faults sink.old) result }
+    ensures counts { K.faults sink.new ≡ count_after (K.faults sink.old) result }
 {
     let mut rest = bytes;
     while !rest.is_empty() {

@@ -1,7 +1,7 @@
 // A sink that takes less at a time than the one that it passes on to.
 ghost use Rattle.std.specs.Prelude.{◌≡◌, ◌<◌, ◌≤◌, length, IfOk};
 ghost use Rattle.std.specs.Io.KnownBytes.{WriteAppends};
-ghost use Rattle.ff_io.specs.Faults.{HasCause, counted};
+ghost use Rattle.ff_io.specs.Faults.{HasCause, count_after};
 
 use crate::{Failed, Sink};
 use std::marker::Model;
@@ -52,7 +52,7 @@ impl<K: Sink> Sink for ShortSink<K> {
         ensures within { IfOk result (λ n. n ≤ length piece.now) }
         ensures bytes { WriteAppends (K.taken self.old.inner) (K.taken self.new.inner) result piece.now }
         ensures cause { HasCause (K.faults self.old.inner) (K.faults self.new.inner) result }
-        ensures counts { K.faults self.new.inner ≡ counted (K.faults self.old.inner) result }
+        ensures counts { K.faults self.new.inner ≡ count_after (K.faults self.old.inner) result }
         ensures short { IfOk result (λ n. n ≤ self.old.most) }
         ensures same_most { self.new.most ≡ self.old.most }
     {

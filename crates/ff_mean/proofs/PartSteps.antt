@@ -6,7 +6,7 @@ use Rattle.std.proofs.Common.{Box}
 use Rattle.std.specs.Prelude.{Option, None, Some, Result, Ok, Err, IfOk}
 use Rattle.ff_rec.specs.Lines.{Rec}
 use Rattle.ff_rec.proofs.WeightLaws.{Same-refl, Same-append}
-use Rattle.ff_node.specs.Behaviour.{Behaviour, KeepsKind, line, line_refused}
+use Rattle.ff_node.specs.Behaviour.{Behaviour, KeepsKind, pipeline, pipeline_rejected}
 use Rattle.ff_node.specs.Sends.{Sent, add}
 use Rattle.ff_node.proofs.SendsLaws.{add-add, add-nothing}
 use Rattle.ff_net.specs.declared.net.Net.{Net, Leaf as NetLeaf, Pipe' as NetPipe', Comb' as NetComb', Farm' as NetFarm', OFarm' as NetOFarm', A2a' as NetA2a', Wrap as NetWrap, Wrap' as NetWrap'}
@@ -14,11 +14,11 @@ use Rattle.ff_net.specs.declared.net.Test.{Test}
 use Rattle.ff_net.specs.Forms.{has_wrap}
 use Rattle.ff_net.specs.RuleTests.{is_wrap}
 use Rattle.ff_net.specs.Good.{GoodParts, EachTopOrNone}
-use Rattle.ff_net.specs.Meaning.{mean, mean_through, lost, lost_through, Fine, FineThrough}
+use Rattle.ff_net.specs.Meaning.{mean, mean_through, mean_rejected, mean_rejected_through, Fine, FineThrough}
 use Rattle.ff_net.specs.Tree.{Tree, Trees, none, more, tree_of, trees_of}
 use Rattle.ff_mean.specs.Gathering.{Gathers, HasRun, HasRunNet, HasRunParts, HasRunRounds}
 use Rattle.ff_mean.specs.Runs.{nodes_in}
-use Rattle.ff_mean.proofs.Lines.{is_line, line-opened, line_refused-opened}
+use Rattle.ff_mean.proofs.Lines.{is_pipeline, pipeline-opened, pipeline_rejected-opened}
 use Rattle.ff_mean.proofs.NodeSteps.{empty-added}
 
 -- what holds of an answer, where memory was not out
@@ -65,7 +65,7 @@ module _ {N : Type 0} (b : Behaviour N) (m : ℕ) where
         good = good.1;
         wraps = wraps.1;
         leads = λ after answer h. so_far.leads after answer (subst (λ (l : Trees N). HasRunParts b m l ys now after answer) (sym first)
-            (HasRun-behind (Fine b m t ys) (FineThrough b m ts) (mean_through b m ts) (lost_through b m ts) (mean b m t ys) (lost b m t ys) now mid after zs answer ran h));
+            (HasRun-behind (Fine b m t ys) (FineThrough b m ts) (mean_through b m ts) (mean_rejected_through b m ts) (mean b m t ys) (mean_rejected b m t ys) now mid after zs answer ran h));
       }
 
   -- one is over its limit
@@ -82,16 +82,16 @@ module _ {N : Type 0} (b : Behaviour N) (m : ℕ) where
       (record { fine = tt; sent = refl; losses = []; same = Same-refl []; added = sym (add-nothing now) }))
 
   -- a part without feedback was run node by node
-  pub HasRunNet-line : KeepsKind b → (t : Tree N) (os : List N) (xs ys : List Rec) (before after : Sent) → has_wrap t ≡ false → os ≡ map b.opening (nodes_in t)
-      → ys ≡ line b os xs → after ≡ add before [] (line_refused b os xs) → HasRunNet b m t xs before after (Some ys)
-  HasRunNet-line keeps t os xs ys before after none_there are sent added =
-      let as_line = is_line b t none_there in
+  pub HasRunNet-pipeline : KeepsKind b → (t : Tree N) (os : List N) (xs ys : List Rec) (before after : Sent) → has_wrap t ≡ false → os ≡ map b.opening (nodes_in t)
+      → ys ≡ pipeline b os xs → after ≡ add before [] (pipeline_rejected b os xs) → HasRunNet b m t xs before after (Some ys)
+  HasRunNet-pipeline keeps t os xs ys before after none_there are sent added =
+      let as_line = is_pipeline b t none_there in
       record {
         fine = as_line.fine m xs;
-        sent = sent ∙ ap (λ l. line b l xs) are ∙ line-opened b keeps (nodes_in t) xs ∙ sym (as_line.mean m xs);
-        losses = lost b m t xs;
-        same = Same-refl (lost b m t xs);
-        added = added ∙ ap (λ l. add before [] (line_refused b l xs)) are ∙ ap (add before []) (line_refused-opened b keeps (nodes_in t) xs ∙ sym (as_line.lost m xs));
+        sent = sent ∙ ap (λ l. pipeline b l xs) are ∙ pipeline-opened b keeps (nodes_in t) xs ∙ sym (as_line.mean m xs);
+        losses = mean_rejected b m t xs;
+        same = Same-refl (mean_rejected b m t xs);
+        added = added ∙ ap (λ l. add before [] (pipeline_rejected b l xs)) are ∙ ap (add before []) (pipeline_rejected-opened b keeps (nodes_in t) xs ∙ sym (as_line.rejected m xs));
       }
 
 -- the parts from one on are it and those behind it
@@ -115,8 +115,8 @@ no_wrap_there (NetWrap' n p w t) other there = absurd (other n (record { ptr = p
 
 -- what was run of a wrap was run of the network that it is
 pub HasRunNet-wrap : {N : Type 0} (b : Behaviour N) (m : ℕ) (net v : Net N) (n : ℕ) (w : Box (Net N) Global) (p : Test) (xs : List Rec) (before after : Sent) → net ≡ NetWrap n w p
-    → v ≡ w.value → (answer : Option (List Rec)) → HasRunRounds (mean b m (tree_of v)) (lost b m (tree_of v)) p m xs before after answer
+    → v ≡ w.value → (answer : Option (List Rec)) → HasRunRounds (mean b m (tree_of v)) (mean_rejected b m (tree_of v)) p m xs before after answer
     → HasRunNet b m (tree_of net) xs before after answer
 HasRunNet-wrap b m net v n w p xs before after is inner answer ran =
     subst (λ (u : Net _). HasRunNet b m (tree_of u) xs before after answer) (sym is)
-    (subst (λ (u : Net _). HasRunRounds (mean b m (tree_of u)) (lost b m (tree_of u)) p m xs before after answer) inner ran)
+    (subst (λ (u : Net _). HasRunRounds (mean b m (tree_of u)) (mean_rejected b m (tree_of u)) p m xs before after answer) inner ran)

@@ -6,7 +6,7 @@ use Rattle.ff_rec.specs.Lines.{Rec}
 use Rattle.ff_rec.specs.Weights.{Same}
 use Rattle.ff_rec.proofs.WeightLaws.{Same-refl, Same-≡, Same-sym, Same-trans, Same-append}
 use Rattle.ff_node.specs.declared.class.Class.TheVariants.{Plain}
-use Rattle.ff_node.specs.Behaviour.{Behaviour, KeepsKind, node, refused}
+use Rattle.ff_node.specs.Behaviour.{Behaviour, KeepsKind, node, node_rejected}
 use Rattle.ff_node.specs.Classes.{ClassLaw}
 use Rattle.ff_node.specs.OnListsLaws.{plain_goes_by_records}
 use Rattle.ff_node.specs.Sends.{Sent}
@@ -52,11 +52,11 @@ module _ (f g : List Rec → List Rec) (p : Test) (same : (xs : List Rec) → f 
 pub HasRunRounds-plain : {S : Type 0} (b : Behaviour S) → KeepsKind b → ((o : S) → ClassLaw b o (b.class o)) → (o s : S) → b.class o ≡ Plain → s ≡ b.opening o
     → (m : ℕ) (p : Test) (xs : List Rec) (before after : Sent) (answer : Option (List Rec))
     → HasRunRounds (flat_map (b.sends (b.opening s))) (flat_map (b.rejects (b.opening s))) p m xs before after answer
-    → HasRunRounds (node b o) (refused b o) p m xs before after answer
+    → HasRunRounds (node b o) (node_rejected b o) p m xs before after answer
 HasRunRounds-plain b keeps law o s plain is m p xs before after answer ran =
     let kind : b.opening s ≡ b.opening o = ap b.opening is ∙ keeps.opening_of_opening o in
     let by_records = plain_goes_by_records b law o plain in
     HasRunRounds-≡ (flat_map (b.sends (b.opening s))) (node b o) p (λ us. ap (λ u. flat_map (b.sends u) us) kind ∙ sym (by_records us).0)
-    (flat_map (b.rejects (b.opening s))) (refused b o)
-    (λ us. Same-≡ (flat_map (b.rejects (b.opening s)) us) (refused b o us) (ap (λ u. flat_map (b.rejects u) us) kind ∙ sym (by_records us).1))
+    (flat_map (b.rejects (b.opening s))) (node_rejected b o)
+    (λ us. Same-≡ (flat_map (b.rejects (b.opening s)) us) (node_rejected b o us) (ap (λ u. flat_map (b.rejects u) us) kind ∙ sym (by_records us).1))
     m xs before after answer ran

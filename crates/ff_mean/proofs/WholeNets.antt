@@ -10,7 +10,7 @@ use Rattle.ff_node.specs.Behaviour.{Behaviour}
 use Rattle.ff_node.specs.Sends.{Sent, add, nothing_sent, count_more, kept_of, counted}
 use Rattle.ff_node.proofs.SendsLaws.{count_more-zero}
 use Rattle.ff_net.specs.declared.net.Net.{Net, Pipe as NetPipe}
-use Rattle.ff_net.specs.Meaning.{lost}
+use Rattle.ff_net.specs.Meaning.{mean_rejected}
 use Rattle.ff_net.specs.Tree.{Tree, Pipe, tree_of, trees_of, tree_of-Pipe}
 use Rattle.ff_mean.specs.Gathering.{HasRunNet}
 use Rattle.ff_mean.specs.Runs.{AreKept, IsMeant}
@@ -40,5 +40,5 @@ IsMeant-gathered b m keep t xs ys number kept before after start ran counts are 
       ∙ ap (λ (s : Sent). count_more s.rejects ran.losses) start
       ∙ count_more-zero ran.losses
       ∙ ap counted (sym (Same-length ran.same));
-  kept = AreKept-added keep (lost b m t xs) ran.losses kept before after start ran.added are ran.same;
+  kept = AreKept-added keep (mean_rejected b m t xs) ran.losses kept before after start ran.added are ran.same;
 }

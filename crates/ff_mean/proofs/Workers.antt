@@ -7,21 +7,21 @@ use Rattle.ff_rec.specs.Lines.{Rec}
 use Rattle.ff_rec.specs.Weights.{Same}
 use Rattle.ff_rec.proofs.WeightLaws.{Same-≡, Same-trans}
 use Rattle.ff_node.specs.declared.class.Class.TheVariants.{Plain}
-use Rattle.ff_node.specs.Behaviour.{Behaviour, KeepsKind, node, refused, sent_from, refused_from, line, line_refused}
+use Rattle.ff_node.specs.Behaviour.{Behaviour, KeepsKind, node, node_rejected, sent_from, rejected_from, pipeline, pipeline_rejected}
 use Rattle.ff_node.specs.Comb.{Part, running, nodes_of, joined_class, both, joint_class, part_classes, comb_node}
-use Rattle.ff_node.specs.CombLaws.{comb-is_line}
+use Rattle.ff_node.specs.CombLaws.{comb-is_pipeline}
 use Rattle.ff_node.specs.Sends.{Sent}
 use Rattle.ff_net.specs.declared.net.Test.{Test}
 use Rattle.ff_net.specs.Counts.{count}
 use Rattle.ff_net.specs.Forms.{has_wrap, any_wrap}
 use Rattle.ff_net.specs.Good.{Good, ArePlain, EachPlain, AreLeaves, PlainNode, InRange}
-use Rattle.ff_net.specs.Meaning.{mean, lost}
+use Rattle.ff_net.specs.Meaning.{mean, mean_rejected}
 use Rattle.ff_net.specs.RuleTests.{is_leaf}
 use Rattle.ff_net.specs.Tree.{Tree, Trees, Leaf, Pipe, Comb, Farm, OFarm, A2a, Wrap, none, more}
 use Rattle.ff_net.proofs.Kept.{both-false}
 use Rattle.ff_mean.specs.Gathering.{HasRunRounds}
 use Rattle.ff_mean.specs.Runs.{nodes_in, nodes_through}
-use Rattle.ff_mean.proofs.Lines.{is_line, line-opened, line_refused-opened}
+use Rattle.ff_mean.proofs.Lines.{is_pipeline, pipeline-opened, pipeline_rejected-opened}
 use Rattle.ff_mean.proofs.RoundLaws.{HasRunRounds-≡}
 
 module _ {N : Type 0} (b : Behaviour N) where
@@ -118,24 +118,24 @@ module _ {N : Type 0} (b : Behaviour N) where
 
       -- and means what the worker does
       pub HasRunRounds-comb : (ps : List (Part N)) → ps ≡ running os → (m : ℕ) (p : Test) (xs : List Rec) (before after : Sent) (answer : Option (List Rec))
-          → HasRunRounds (node (comb_node b) ps) (refused (comb_node b) ps) p m xs before after answer
-          → HasRunRounds (mean b m t) (lost b m t) p m xs before after answer
+          → HasRunRounds (node (comb_node b) ps) (node_rejected (comb_node b) ps) p m xs before after answer
+          → HasRunRounds (mean b m t) (mean_rejected b m t) p m xs before after answer
       HasRunRounds-comb ps is m p xs before after answer ran =
-          let as_line = is_line b t (worker_wraps t plain good) in
+          let as_line = is_pipeline b t (worker_wraps t plain good) in
           let same_nodes : nodes_of ps ≡ map b.opening (nodes_in t) = ap (λ (qs : List (Part N)). nodes_of qs) is ∙ nodes_of-running os ∙ are in
           let sends : (us : List Rec) → node (comb_node b) ps us ≡ mean b m t us =
-          λ us. (comb-is_line b ps us).0 ∙ ap (λ l. line b l us) same_nodes ∙ line-opened b keeps (nodes_in t) us ∙ sym (as_line.mean m us) in
-          let loses : (us : List Rec) → line_refused b (nodes_of ps) us ≡ lost b m t us =
-          λ us. ap (λ l. line_refused b l us) same_nodes ∙ line_refused-opened b keeps (nodes_in t) us ∙ sym (as_line.lost m us) in
-          let alike : (us : List Rec) → Same (refused (comb_node b) ps us) (lost b m t us) =
-          λ us. Same-trans (comb-is_line b ps us).1 (Same-≡ (line_refused b (nodes_of ps) us) (lost b m t us) (loses us)) in
-          HasRunRounds-≡ (node (comb_node b) ps) (mean b m t) p sends (refused (comb_node b) ps) (lost b m t) alike m xs before after answer ran
+          λ us. (comb-is_pipeline b ps us).0 ∙ ap (λ l. pipeline b l us) same_nodes ∙ pipeline-opened b keeps (nodes_in t) us ∙ sym (as_line.mean m us) in
+          let loses : (us : List Rec) → pipeline_rejected b (nodes_of ps) us ≡ mean_rejected b m t us =
+          λ us. ap (λ l. pipeline_rejected b l us) same_nodes ∙ pipeline_rejected-opened b keeps (nodes_in t) us ∙ sym (as_line.rejected m us) in
+          let alike : (us : List Rec) → Same (node_rejected (comb_node b) ps us) (mean_rejected b m t us) =
+          λ us. Same-trans (comb-is_pipeline b ps us).1 (Same-≡ (pipeline_rejected b (nodes_of ps) us) (mean_rejected b m t us) (loses us)) in
+          HasRunRounds-≡ (node (comb_node b) ps) (mean b m t) p sends (node_rejected (comb_node b) ps) (mean_rejected b m t) alike m xs before after answer ran
 
     -- a leaf means what its node does
     pub HasRunRounds-leaf : (t : Tree N) (o s : N) (m : ℕ) (p : Test) (xs : List Rec) (before after : Sent) (answer : Option (List Rec)) → t ≡ Leaf o → s ≡ b.opening o
-        → HasRunRounds (node b s) (refused b s) p m xs before after answer → HasRunRounds (mean b m t) (lost b m t) p m xs before after answer
+        → HasRunRounds (node b s) (node_rejected b s) p m xs before after answer → HasRunRounds (mean b m t) (mean_rejected b m t) p m xs before after answer
     HasRunRounds-leaf t o s m p xs before after answer leaf is ran =
         let kind : b.opening s ≡ b.opening o = ap b.opening is ∙ keeps.opening_of_opening o in
-        subst (λ (u : Tree N). HasRunRounds (mean b m u) (lost b m u) p m xs before after answer) (sym leaf)
-        (HasRunRounds-≡ (node b s) (node b o) p (λ us. ap (λ u. sent_from b u us) kind) (refused b s) (refused b o)
-        (λ us. Same-≡ (refused b s us) (refused b o us) (ap (λ u. refused_from b u us) kind)) m xs before after answer ran)
+        subst (λ (u : Tree N). HasRunRounds (mean b m u) (mean_rejected b m u) p m xs before after answer) (sym leaf)
+        (HasRunRounds-≡ (node b s) (node b o) p (λ us. ap (λ u. sent_from b u us) kind) (node_rejected b s) (node_rejected b o)
+        (λ us. Same-≡ (node_rejected b s us) (node_rejected b o us) (ap (λ u. rejected_from b u us) kind)) m xs before after answer ran)

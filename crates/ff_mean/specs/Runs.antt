@@ -2,10 +2,10 @@
 use Rattle.std.specs.Prelude.{◌≡◌, ℕ, Bool, true, false, List, [], ◌∷◌, ◌++◌}
 use Rattle.ff_rec.specs.Lines.{Rec}
 use Rattle.ff_rec.specs.Weights.{Same}
-use Rattle.ff_node.specs.Behaviour.{Behaviour, line, line_refused}
+use Rattle.ff_node.specs.Behaviour.{Behaviour, pipeline, pipeline_rejected}
 use Rattle.ff_net.specs.Forms.{has_wrap}
 use Rattle.ff_net.specs.Tree.{Tree, Trees, Leaf, Pipe, Comb, Farm, OFarm, A2a, Wrap, none, more}
-use Rattle.ff_net.specs.Meaning.{mean, Fine, lost, lost_count}
+use Rattle.ff_net.specs.Meaning.{mean, Fine, mean_rejected, mean_rejected_count}
 use Rattle.ff_mean.specs.declared.outcome.Outcome.{Outcome}
 use Rattle.ff_mean.specs.declared.outcome.Outcome.TheVariants.{Done, Over}
 
@@ -18,8 +18,8 @@ pub record AreKept (keep : Bool) (losses kept : List Rec) : Type 0 where
 pub record IsMeant {N : Type 0} (b : Behaviour N) (m : ℕ) (keep : Bool) (t : Tree N) (xs ys : List Rec) (number : ℕ) (zs : List Rec) : Type 0 where
   pub fine : Fine b m t xs
   pub sent : ys ≡ mean b m t xs
-  pub rejected : number ≡ lost_count b m t xs
-  pub kept : AreKept keep (lost b m t xs) zs
+  pub rejected : number ≡ mean_rejected_count b m t xs
+  pub kept : AreKept keep (mean_rejected b m t xs) zs
 
 -- what a run answers: all that the network means, or that a wrap is over its limit
 abbrev pub Answered : {N : Type 0} → Behaviour N → ℕ → Bool → Tree N → List Rec → Outcome → Type 0
@@ -43,8 +43,8 @@ abbrev mutual
 
 -- a network means its nodes one behind another, and is never over a limit
 pub record IsLine {N : Type 0} (b : Behaviour N) (t : Tree N) : Type 0 where
-  pub mean : (m : ℕ) (xs : List Rec) → mean b m t xs ≡ line b (nodes_in t) xs
-  pub lost : (m : ℕ) (xs : List Rec) → lost b m t xs ≡ line_refused b (nodes_in t) xs
+  pub mean : (m : ℕ) (xs : List Rec) → mean b m t xs ≡ pipeline b (nodes_in t) xs
+  pub rejected : (m : ℕ) (xs : List Rec) → mean_rejected b m t xs ≡ pipeline_rejected b (nodes_in t) xs
   pub fine : (m : ℕ) (xs : List Rec) → Fine b m t xs
 
 -- every network without feedback does

@@ -4,6 +4,6 @@ ghost use Rattle.ff_mean.specs.Runs.{LinesWithoutFeedback};
 use ff_node::Node;
 
 /// A network without feedback means its nodes one behind another, and is never over a limit.
-pub fn networks_without_feedback_are_lines<N: Node>(_node: &N)
+pub fn networks_without_feedback_are_pipelines<N: Node>(_node: &N)
     ensures { LinesWithoutFeedback N.does }
 {}

@@ -2,7 +2,7 @@
 #![tactic(auto)]
 
 pub mod laws;
-mod line;
+mod pipeline;
 mod network;
 mod nodes;
 mod outcome;

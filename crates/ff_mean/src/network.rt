@@ -33,7 +33,7 @@ pub fn run_one<N: Node>(
     Ok(Outcome::Done {
         sent,
         rejected: out.rejects(),
-        refused: take_rejects(alloc, &mut out)?,
+        kept: take_rejects(alloc, &mut out)?,
     })
 }
 

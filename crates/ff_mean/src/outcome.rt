@@ -10,7 +10,7 @@ pub enum Outcome {
         /// How many records its nodes rejected, up to 2^64 - 1.
         rejected: u64,
         /// These records, where they were to be kept.
-        refused: Records,
+        kept: Records,
     },
     /// A wrap has more tasks than its limit.
     Over,

@@ -2,12 +2,12 @@
 ghost use Rattle.std.specs.Prelude.{◌≡◌, ◌⊎◌, true, false, [], IfOk};
 ghost use Rattle.ff_net.specs.Forms.{has_wrap};
 ghost use Rattle.ff_net.specs.Good.{Good, GoodParts, PlainNode, EachTopOrNone};
-ghost use Rattle.ff_net.specs.Meaning.{mean, lost};
+ghost use Rattle.ff_net.specs.Meaning.{mean, mean_rejected};
 ghost use Rattle.ff_net.specs.RuleTests.{is_wrap};
 ghost use Rattle.ff_net.specs.Tree.{tree_of, trees_of};
 ghost use Rattle.ff_mean.specs.Gathering.{HasRunNet, HasRunParts, HasRunRounds};
 
-use crate::line::run_line;
+use crate::pipeline::run_pipeline;
 use crate::nodes::nodes_of;
 use crate::rounds::run_rounds;
 use ff_net::{Net, Test};
@@ -55,7 +55,7 @@ pub(crate) fn run_part<N: Node>(
     if let Net::Wrap { worker, test, .. } = part {
         return run_wrap(alloc, worker, test, limit, input, out);
     }
-    Ok(Some(run_line(alloc, nodes_of(alloc, part)?, input, out)?))
+    Ok(Some(run_pipeline(alloc, nodes_of(alloc, part)?, input, out)?))
 }
 
 // A wrap of a Plain node, or of several that run as one.
@@ -70,7 +70,7 @@ fn run_wrap<N: Node>(
     requires plain { PlainNode N.does (tree_of worker.now) }
     requires good { Good N.does (tree_of worker.now) }
     requires empty { out.old.sends ≡ [] }
-    ensures { IfOk result (λ answer. HasRunRounds (mean N.does limit (tree_of worker.now)) (lost N.does limit (tree_of worker.now))
+    ensures { IfOk result (λ answer. HasRunRounds (mean N.does limit (tree_of worker.now)) (mean_rejected N.does limit (tree_of worker.now))
         test.now limit input out.old out.new answer) }
 {
     if let Net::Leaf(node) = worker {

@@ -1,6 +1,6 @@
 // Records that go round.
 ghost use Rattle.std.specs.Prelude.{◌≡◌, [], IfOk, OnOk};
-ghost use Rattle.ff_node.specs.Behaviour.{node, refused};
+ghost use Rattle.ff_node.specs.Behaviour.{node, node_rejected};
 ghost use Rattle.ff_node.specs.Sends.{add};
 ghost use Rattle.ff_node.specs.declared.class.Class.TheVariants.{Plain};
 ghost use Rattle.ff_mean.specs.Gathering.{HasRunRounds};
@@ -25,7 +25,7 @@ pub(crate) fn run_rounds<W: Node>(
 ) -> Result<Option<Records>, NoMemory>
     requires plain { W.does.class worker ≡ Plain }
     requires empty { out.old.sends ≡ [] }
-    ensures { IfOk result (λ answer. HasRunRounds (node W.does worker) (refused W.does worker) test.now limit input out.old out.new answer) }
+    ensures { IfOk result (λ answer. HasRunRounds (node W.does worker) (node_rejected W.does worker) test.now limit input out.old out.new answer) }
 {
     let fed = input.len() as u64;
     if limit < fed {

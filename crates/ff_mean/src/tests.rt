@@ -71,8 +71,8 @@ fn run(
         Outcome::Done {
             sent,
             rejected,
-            refused,
-        } => Ok(Some((sent, rejected, refused))),
+            kept,
+        } => Ok(Some((sent, rejected, kept))),
         Outcome::Over => Ok(None),
     }
 }
@@ -84,13 +84,13 @@ fn a_pipe_with_a_wrap(rt: HostRuntime) -> Result<(), Fail> {
         let second = wrap(&rt, turn(&rt, 5, b"3")?, 5)?;
         let net = Net::Pipe(vec![in rt.alloc(); first, second]?);
         let answer = run(&rt, net, 1, keep, two(&rt, b"9", b"4")?)?;
-        let (sent, rejected, refused) = answer.ok_or("over")?;
+        let (sent, rejected, kept) = answer.ok_or("over")?;
         assert!(rt; are(&sent, &[b"3"]));
         assert_eq!(rt; rejected, 1);
         if keep {
-            assert!(rt; are(&refused, &[b"4"]));
+            assert!(rt; are(&kept, &[b"4"]));
         } else {
-            assert!(rt; refused.is_empty());
+            assert!(rt; kept.is_empty());
         }
     }
     Ok(())
@@ -101,10 +101,10 @@ fn a_wrap_at_its_limit(rt: HostRuntime) -> Result<(), Fail> {
     // Two tasks are fed, and each 9 is a 5 that comes back, which the worker rejects.
     let enough = wrap(&rt, turn(&rt, 9, b"5")?, 5)?;
     let answer = run(&rt, enough, 4, true, two(&rt, b"9", b"9")?)?;
-    let (sent, rejected, refused) = answer.ok_or("over")?;
+    let (sent, rejected, kept) = answer.ok_or("over")?;
     assert!(rt; sent.is_empty());
     assert_eq!(rt; rejected, 2);
-    assert!(rt; are(&refused, &[b"5", b"5"]));
+    assert!(rt; are(&kept, &[b"5", b"5"]));
 
     let one_short = wrap(&rt, turn(&rt, 9, b"5")?, 5)?;
     assert!(rt; run(&rt, one_short, 3, true, two(&rt, b"9", b"9")?)?.is_none());
@@ -119,10 +119,10 @@ fn a_wrap_of_several_nodes(rt: HostRuntime) -> Result<(), Fail> {
     let second = turn(&rt, 5, b"3")?;
     let comb = Net::Comb(vec![in rt.alloc(); first, second]?);
     let answer = run(&rt, wrap(&rt, comb, 5)?, 2, true, two(&rt, b"9", b"8")?)?;
-    let (sent, rejected, refused) = answer.ok_or("over")?;
+    let (sent, rejected, kept) = answer.ok_or("over")?;
     assert!(rt; are(&sent, &[b"3"]));
     assert_eq!(rt; rejected, 1);
-    assert!(rt; are(&refused, &[b"8"]));
+    assert!(rt; are(&kept, &[b"8"]));
     Ok(())
 }
 

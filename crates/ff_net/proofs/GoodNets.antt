@@ -8,7 +8,7 @@ use Rattle.ff_net.specs.declared.spot.Role.TheVariants.{CombPart, OFarmWorker, L
 use Rattle.ff_net.specs.Tree.{Tree, Trees, Leaf, Pipe, Comb, Farm, OFarm, A2a, Wrap, none, more}
 use Rattle.ff_net.specs.Counts.{count, units, edges}
 use Rattle.ff_net.specs.Places.{child, as_role, part_role, farm_worker, past, all_in, all_piped, whole}
-use Rattle.ff_net.specs.RuleTests.{is_off, is_line, all_plain, most_units}
+use Rattle.ff_net.specs.RuleTests.{is_off, is_pipeline, all_plain, most_units}
 use Rattle.ff_net.specs.Good.{Good, GoodParts, IsWithin}
 use Rattle.ff_net.proofs.FirstFault.{shallow_whole}
 use Rattle.ff_net.proofs.Kept.{not-false, and-both, or-false, Kept, kept_front, kept_back, kept_here, kept_inner}
@@ -37,8 +37,8 @@ module _ {N : Type 0} (b : Behaviour N) (v : Version) where
         )
     good s at (OFarm n d w) kept =
         let worker = kept_inner b v s at (OFarm n d w) kept in
-        let line = not-false (is_line w && all_plain b w) (kept_here b v (as_role OFarmWorker s) (child at 1) w worker OFarmWorkers) in
-        let both = and-both (is_line w) (all_plain b w) line in (
+        let line = not-false (is_pipeline w && all_plain b w) (kept_here b v (as_role OFarmWorker s) (child at 1) w worker OFarmWorkers) in
+        let both = and-both (is_pipeline w) (all_plain b w) line in (
           in_range n (kept_here b v s at (OFarm n d w) kept Workers),
           are_plain b w both.1,
           both.0,

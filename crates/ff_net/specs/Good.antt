@@ -7,7 +7,7 @@ use Rattle.ff_net.specs.declared.net.Route.TheVariants.{By}
 use Rattle.ff_net.specs.Tree.{Tree, Trees, Leaf, Pipe, Comb, Farm, OFarm, A2a, Wrap, none, more}
 use Rattle.ff_net.specs.Counts.{count, depth, units, edges}
 use Rattle.ff_net.specs.Forms.{is_ordered, has_wrap}
-use Rattle.ff_net.specs.RuleTests.{is_leaf, is_node, is_line, is_wrap, most_units}
+use Rattle.ff_net.specs.RuleTests.{is_leaf, is_node, is_pipeline, is_wrap, most_units}
 use Rattle.ff_net.specs.declared.net.Version.{Version}
 
 -- a number of parts, of workers or of a set
@@ -69,7 +69,7 @@ abbrev mutual
   Good b (Pipe ts) = InRange (count ts) × GoodParts b ts
   Good b (Comb ts) = InRange (count ts) × AreLeaves ts
   Good b (Farm n s w) = InRange n × ArePlain b w × (has_wrap w ≡ false) × Good b w
-  Good b (OFarm n s w) = InRange n × ArePlain b w × (is_line w ≡ true) × Good b w
+  Good b (OFarm n s w) = InRange n × ArePlain b w × (is_pipeline w ≡ true) × Good b w
   Good b (A2a n l r m t) = InRange n × InRange m × RouteInRange r × PlainNode b l × (PlainNode b t ⊎ KeyedNode b r t) × Good b l × Good b t
   Good b (Wrap n w p) = InRange n × InRange p.field × PlainNode b w × Good b w
 

@@ -1,15 +1,10 @@
 -- Records that go round: what a worker sends for them and what of it meets a test comes back as the next level.
-use Rattle.std.specs.Prelude.{ℕ, zero, suc, ◌<◌, Bool, false, not, List, [], ◌++◌, length, Option, None, Some, option_and_then, ℤ}
+use Rattle.std.specs.Prelude.{ℕ, zero, suc, ◌<◌, Bool, false, not, List, [], ◌++◌, length, Option, None, Some, ℤ}
 use Rattle.std.specs.List.{filter}
-use Rattle.ff_rec.specs.Fields.{field_at}
+use Rattle.ff_rec.specs.Fields.{number_in}
 use Rattle.ff_rec.specs.Lines.{Rec}
-use Rattle.ff_rec.specs.Number.{number}
-use Rattle.ff_node.specs.Cmp.{compares}
+use Rattle.ff_rec.specs.Cmp.{compares}
 use Rattle.ff_net.specs.declared.net.Test.{Test}
-
--- the number in field `f`
-abbrev pub number_in : ℕ → Rec → Option ℤ
-number_in f r = option_and_then number (field_at f r)
 
 -- whether what may be a number stands to the test's value as the test says
 abbrev pub met_by : Test → Option ℤ → Bool

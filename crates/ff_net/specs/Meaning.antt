@@ -2,7 +2,7 @@
 use Rattle.std.specs.Prelude.{◌≡◌, ℕ, suc, Bool, true, false, List, [], ◌++◌, length, ◌⊎◌}
 use Rattle.ff_rec.specs.Lines.{Rec, text}
 use Rattle.ff_rec.specs.Weights.{Same}
-use Rattle.ff_node.specs.Behaviour.{Behaviour, node, refused}
+use Rattle.ff_node.specs.Behaviour.{Behaviour, node, node_rejected}
 use Rattle.ff_node.specs.Sends.{counted}
 use Rattle.ff_net.specs.Tree.{Tree, Trees, Leaf, Pipe, Comb, Farm, OFarm, A2a, Wrap, none, more}
 use Rattle.ff_net.specs.Forms.{is_ordered}
@@ -42,22 +42,22 @@ abbrev mutual
 
 abbrev mutual
   -- what all nodes reject along the way; in a wrap on all levels
-  pub lost : {N : Type 0} → Behaviour N → ℕ → Tree N → List Rec → List Rec
-  lost b m (Leaf o) xs = refused b o xs
-  lost b m (Pipe ts) xs = lost_through b m ts xs
-  lost b m (Comb ts) xs = lost_through b m ts xs
-  lost b m (Farm n s w) xs = lost b m w xs
-  lost b m (OFarm n s w) xs = lost b m w xs
-  lost b m (A2a n l r k t) xs = lost b m l xs ++ lost b m t (mean b m l xs)
-  lost b m (Wrap n w p) xs = over_levels (lost b m w) (mean b m w) p (suc m) xs
+  pub rejected : {N : Type 0} → Behaviour N → ℕ → Tree N → List Rec → List Rec
+  mean_rejected b m (Leaf o) xs = node_rejected b o xs
+  mean_rejected b m (Pipe ts) xs = mean_rejected_through b m ts xs
+  mean_rejected b m (Comb ts) xs = mean_rejected_through b m ts xs
+  mean_rejected b m (Farm n s w) xs = mean_rejected b m w xs
+  mean_rejected b m (OFarm n s w) xs = mean_rejected b m w xs
+  mean_rejected b m (A2a n l r k t) xs = mean_rejected b m l xs ++ mean_rejected b m t (mean b m l xs)
+  mean_rejected b m (Wrap n w p) xs = over_levels (mean_rejected b m w) (mean b m w) p (suc m) xs
 
-  pub lost_through : {N : Type 0} → Behaviour N → ℕ → Trees N → List Rec → List Rec
-  lost_through b m none xs = []
-  lost_through b m (more t ts) xs = lost b m t xs ++ lost_through b m ts (mean b m t xs)
+  pub mean_rejected_through : {N : Type 0} → Behaviour N → ℕ → Trees N → List Rec → List Rec
+  mean_rejected_through b m none xs = []
+  mean_rejected_through b m (more t ts) xs = mean_rejected b m t xs ++ mean_rejected_through b m ts (mean b m t xs)
 
 -- how many records all nodes reject, as far as a count of 64 bits tells
-abbrev pub lost_count : {N : Type 0} → Behaviour N → ℕ → Tree N → List Rec → ℕ
-lost_count b m t xs = counted (length (lost b m t xs))
+abbrev pub mean_rejected_count : {N : Type 0} → Behaviour N → ℕ → Tree N → List Rec → ℕ
+mean_rejected_count b m t xs = counted (length (mean_rejected b m t xs))
 
 -- the same records, in the same order where that is asked for
 abbrev pub SameInOrder : Bool → List Rec → List Rec → Type 0

@@ -32,11 +32,11 @@ are_nodes none = true
 are_nodes (more t ts) = is_node t && are_nodes ts
 
 -- a leaf, a comb, or a pipe of leaves and combs
-abbrev pub is_line : {N : Type 0} → Tree N → Bool
-is_line (Leaf o) = true
-is_line (Comb ts) = true
-is_line (Pipe ts) = are_nodes ts
-is_line _ = false
+abbrev pub is_pipeline : {N : Type 0} → Tree N → Bool
+is_pipeline (Leaf o) = true
+is_pipeline (Comb ts) = true
+is_pipeline (Pipe ts) = are_nodes ts
+is_pipeline _ = false
 
 -- a wrap
 abbrev pub is_wrap : {N : Type 0} → Tree N → Bool
@@ -145,7 +145,7 @@ is_bad_in_farm b inside t = inside && (is_leaf t && not (is_plain_leaf b t))
 
 -- an ordered farm's worker that isn't a line of Plain leaves
 abbrev pub is_bad_ofarm_worker : {N : Type 0} → Behaviour N → Role → Tree N → Bool
-is_bad_ofarm_worker b OFarmWorker t = not (is_line t && all_plain b t)
+is_bad_ofarm_worker b OFarmWorker t = not (is_pipeline t && all_plain b t)
 is_bad_ofarm_worker b _ t = false
 
 -- a left set that isn't a Plain leaf or comb, or a right set that isn't one and isn't a Keyed leaf

@@ -7,7 +7,7 @@ use Rattle.ff_rec.specs.Fields.{contents, having, lacking}
 use Rattle.ff_rec.specs.Weights.{Same, weigh}
 use Rattle.ff_node.specs.declared.class.Class.{Class}
 use Rattle.ff_node.specs.declared.class.Class.TheVariants.{Plain, Ordered, Fold, Keyed}
-use Rattle.ff_node.specs.Behaviour.{Behaviour, KeepsKind, sent_from, refused_from, node, refused}
+use Rattle.ff_node.specs.Behaviour.{Behaviour, KeepsKind, sent_from, rejected_from, node, node_rejected}
 use Rattle.ff_node.specs.Classes.{IsPlainNode, IsFoldNode, IsKeyedNode, ClassLaw}
 
 -- it does nothing; `kind` is its class
@@ -28,17 +28,17 @@ module _ {S : Type 0} (kind : S → Class) where
   sent_from-silent s [] = refl
   sent_from-silent s (x ∷ xs) = sent_from-silent s xs
 
-  refused_from-silent : (s : S) (xs : List Rec) → refused_from (silent kind) s xs ≡ []
-  refused_from-silent s [] = refl
-  refused_from-silent s (x ∷ xs) = refused_from-silent s xs
+  rejected_from-silent : (s : S) (xs : List Rec) → rejected_from (silent kind) s xs ≡ []
+  rejected_from-silent s [] = refl
+  rejected_from-silent s (x ∷ xs) = rejected_from-silent s xs
 
   node-each : (o : S) (f : ℕ) (xs : List Rec) (ks : List (List ℕ)) → flat_map (λ k. node (silent kind) o (having f k xs)) ks ≡ []
   node-each o f xs [] = refl
   node-each o f xs (k ∷ ks) = ap (λ ys. ys ++ flat_map (λ j. node (silent kind) o (having f j xs)) ks) (sent_from-silent o (having f k xs)) ∙ node-each o f xs ks
 
-  refused-each : (o : S) (f : ℕ) (xs : List Rec) (ks : List (List ℕ)) → flat_map (λ k. refused (silent kind) o (having f k xs)) ks ≡ []
-  refused-each o f xs [] = refl
-  refused-each o f xs (k ∷ ks) = ap (λ ys. ys ++ flat_map (λ j. refused (silent kind) o (having f j xs)) ks) (refused_from-silent o (having f k xs)) ∙ refused-each o f xs ks
+  node_rejected-each : (o : S) (f : ℕ) (xs : List Rec) (ks : List (List ℕ)) → flat_map (λ k. node_rejected (silent kind) o (having f k xs)) ks ≡ []
+  node_rejected-each o f xs [] = refl
+  node_rejected-each o f xs (k ∷ ks) = ap (λ ys. ys ++ flat_map (λ j. node_rejected (silent kind) o (having f j xs)) ks) (rejected_from-silent o (having f k xs)) ∙ node_rejected-each o f xs ks
 
   same_nothing : (xs ys : List Rec) → xs ≡ [] → ys ≡ [] → Same xs ys
   same_nothing xs ys e d = record { by = λ h. ap (weigh h) (e ∙ sym d) }
@@ -57,18 +57,18 @@ module _ {S : Type 0} (kind : S → Class) where
     sends = λ ys x. refl;
     ends = λ ys x. refl;
     any_order = λ xs ys same. sent_from-silent o xs ∙ sym (sent_from-silent o ys);
-    refused_any_order = λ xs ys same. same_nothing (refused (silent kind) o xs) (refused (silent kind) o ys) (refused_from-silent o xs) (refused_from-silent o ys);
+    rejected_any_order = λ xs ys same. same_nothing (node_rejected (silent kind) o xs) (node_rejected (silent kind) o ys) (rejected_from-silent o xs) (rejected_from-silent o ys);
   }
 
   pub keyed-silent : (f : ℕ) (o : S) → IsKeyedNode (silent kind) f o
   keyed-silent f o = record {
     fold = fold-silent o;
     parts = λ xs. sent_from-silent o xs ∙ sym (node-each o f xs (contents f xs));
-    refused_parts = λ xs. same_nothing (refused (silent kind) o xs)
-        (flat_map (λ k. refused (silent kind) o (having f k xs)) (contents f xs) ++ refused (silent kind) o (lacking f xs))
-        (refused_from-silent o xs)
-        (ap (λ ys. ys ++ refused (silent kind) o (lacking f xs)) (refused-each o f xs (contents f xs)) ∙ refused_from-silent o (lacking f xs));
-    refused_nothing = refl;
+    rejected_parts = λ xs. same_nothing (node_rejected (silent kind) o xs)
+        (flat_map (λ k. node_rejected (silent kind) o (having f k xs)) (contents f xs) ++ node_rejected (silent kind) o (lacking f xs))
+        (rejected_from-silent o xs)
+        (ap (λ ys. ys ++ node_rejected (silent kind) o (lacking f xs)) (node_rejected-each o f xs (contents f xs)) ∙ rejected_from-silent o (lacking f xs));
+    rejected_nothing = refl;
   }
 
   -- it keeps the law of every class

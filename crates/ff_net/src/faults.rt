@@ -7,7 +7,7 @@ ghost use Rattle.ff_net.specs.Rules.{fails};
 
 use crate::counts::{edges, units};
 use crate::leaves::{
-    all_plain, is_leaf, is_line, is_ordered_leaf, is_plain_leaf, is_plain_node, leaf_key,
+    all_plain, is_leaf, is_pipeline, is_ordered_leaf, is_plain_leaf, is_plain_node, leaf_key,
 };
 use crate::path::MOST_DEPTH;
 use crate::rule::Rule;
@@ -119,7 +119,7 @@ fn is_bad_ofarm_worker<N: Node>(role: Role, net: &Net<N>) -> bool
     ensures { result ≡ is_bad_ofarm_worker N.does role (tree_of net.now) }
 {
     match role {
-        Role::OFarmWorker => !(is_line(net) && all_plain(net)),
+        Role::OFarmWorker => !(is_pipeline(net) && all_plain(net)),
         _ => false,
     }
 }

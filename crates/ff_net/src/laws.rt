@@ -8,7 +8,7 @@ use crate::Checked;
 use ff_node::Node;
 
 /// A pipe or a comb of nodes means these nodes one behind another.
-pub fn pipes_of_nodes_are_lines<N: Node>(_node: &N)
+pub fn pipes_of_nodes_are_pipelines<N: Node>(_node: &N)
     ensures { LineOfNodes N.does }
 {}
 

@@ -1,7 +1,7 @@
 // What single networks are, and the classes of their leaves.
 ghost use Rattle.std.specs.Prelude.{◌≡◌};
 ghost use Rattle.ff_net.specs.Tree.{tree_of, trees_of};
-ghost use Rattle.ff_net.specs.RuleTests.{is_leaf, is_node, are_nodes, is_line, all_plain, each_plain, is_plain_node, is_plain_leaf, is_ordered_leaf, leaf_key};
+ghost use Rattle.ff_net.specs.RuleTests.{is_leaf, is_node, are_nodes, is_pipeline, all_plain, each_plain, is_plain_node, is_plain_leaf, is_ordered_leaf, leaf_key};
 
 use crate::Net;
 use ff_node::{Class, Node};
@@ -24,8 +24,8 @@ pub(crate) fn is_node<N>(net: &Net<N>) -> bool
 
 /// A leaf, a comb, or a pipe of leaves and combs.
 #[tactic(auto, using(crate::specs::Tree::tree_forms))]
-pub(crate) fn is_line<N>(net: &Net<N>) -> bool
-    ensures { result ≡ is_line (tree_of net.now) }
+pub(crate) fn is_pipeline<N>(net: &Net<N>) -> bool
+    ensures { result ≡ is_pipeline (tree_of net.now) }
 {
     match net {
         Net::Leaf(_) | Net::Comb(_) => true,

@@ -1,9 +1,8 @@
 // The forms of networks.
 ghost use Rattle.std.specs.Prelude.{◌≡◌};
-ghost use Rattle.ff_net.specs.Levels.{number_in};
 
 use ff_node::Cmp;
-use ff_rec::{Record, read_number};
+use ff_rec::Record;
 
 /// How a farm deals its records out to its workers.
 #[derive(Clone, Copy, Debug, PartialEq, Eq, Hash)]
@@ -42,18 +41,11 @@ impl Test {
     pub fn is_met(&self, r: &Record) -> bool
         ensures { result ≡ meets self.now r.now }
     {
-        match number_in(r, self.field as usize) {
+        match r.number(self.field as usize) {
             Some(n) => self.cmp.holds(n, self.value),
             None => false,
         }
     }
-}
-
-// The number in a field, where there is one.
-fn number_in(r: &Record, field: usize) -> Option<i64>
-    ensures { result ≡ number_in field r.now }
-{
-    read_number(r.field(field)?)
 }
 
 /// The version of a description.

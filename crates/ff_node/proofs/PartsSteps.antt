@@ -3,8 +3,8 @@ use Rattle.std.proofs.Common.{◌≡◌, ℕ, zero, suc, ◌+◌, ◌<◌, ◌�
 use Rattle.ff_rec.specs.Lines.{Rec}
 use Rattle.ff_node.specs.Behaviour.{Behaviour}
 use Rattle.ff_node.specs.Sends.{Sent, add}
-use Rattle.ff_node.specs.Comb.{Part, part, parts, given_from, dropped_from, part_from, part_sends, part_rejects, part_after, part_total, part_total_rejects, through, through_rejects, through_after, total, total_rejects}
-use Rattle.ff_node.specs.CombParts.{given_from-append, dropped_from-append, part_from-append, part_sends-total, part_rejects-total}
+use Rattle.ff_node.specs.Comb.{Part, part, parts, given_from, given_rejected, part_from, part_sends, part_rejects, part_after, part_total, part_total_rejects, through, through_rejects, through_after, total, total_rejects}
+use Rattle.ff_node.specs.CombParts.{given_from-append, given_rejected-append, part_from-append, part_sends-total, part_rejects-total}
 use Rattle.ff_node.proofs.SendsLaws.{add-add, add-nothing}
 
 -- each element replaced by what `f` makes of it, one place further
@@ -24,7 +24,7 @@ set-mapped_at f xs ys i x y so_far below is made =
 module _ {N : Type 0} (b : Behaviour N) where
   -- what a node sends for a record that ends it
   pub add-step : (s t : N) (x : Rec) (out mid new : Sent) → t ≡ b.next s x → mid ≡ add out (b.sends s x) (b.rejects s x) → b.ends s x ≡ true
-      → new ≡ add mid (b.last t) (b.last_rejects t) → new ≡ add out (given_from b s (x ∷ [])) (dropped_from b s (x ∷ []))
+      → new ≡ add mid (b.last t) (b.last_rejects t) → new ≡ add out (given_from b s (x ∷ [])) (given_rejected b s (x ∷ []))
   add-step s t x out mid new next sent ends at_end =
       at_end
       ∙ ap₂ (λ (o : Sent) (n : N). add o (b.last n) (b.last_rejects n)) sent next
@@ -38,12 +38,12 @@ module _ {N : Type 0} (b : Behaviour N) where
       ap (λ p. part_after b p xs) after ∙ part_from-append b s (x ∷ []) xs ∙ sym (ap₂ (λ (f : Bool) us. part_after b (part s f) us) runs whole)
 
   pub add-feed : (s : N) (e : Bool) (x : Rec) (xs all : List Rec) (q : Part N) (out new : Sent) → e ≡ false → all ≡ x ∷ xs → q ≡ part_from b s (x ∷ [])
-      → new ≡ add out (given_from b s (x ∷ [])) (dropped_from b s (x ∷ []))
+      → new ≡ add out (given_from b s (x ∷ [])) (given_rejected b s (x ∷ []))
       → add new (part_sends b q xs) (part_rejects b q xs) ≡ add out (part_sends b (part s e) all) (part_rejects b (part s e) all)
   add-feed s e x xs all q out new runs whole after sent =
       ap₂ (λ (o : Sent) (p : Part N). add o (part_sends b p xs) (part_rejects b p xs)) sent after
-      ∙ add-add out (given_from b s (x ∷ [])) (dropped_from b s (x ∷ [])) (part_sends b (part_from b s (x ∷ [])) xs) (part_rejects b (part_from b s (x ∷ [])) xs)
-      ∙ ap₂ (add out) (given_from-append b s (x ∷ []) xs) (dropped_from-append b s (x ∷ []) xs)
+      ∙ add-add out (given_from b s (x ∷ [])) (given_rejected b s (x ∷ [])) (part_sends b (part_from b s (x ∷ [])) xs) (part_rejects b (part_from b s (x ∷ [])) xs)
+      ∙ ap₂ (add out) (given_from-append b s (x ∷ []) xs) (given_rejected-append b s (x ∷ []) xs)
       ∙ sym (ap₂ (λ (f : Bool) us. add out (part_sends b (part s f) us) (part_rejects b (part s f) us)) runs whole)
 
   -- a part's last records and its end

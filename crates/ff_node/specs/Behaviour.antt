@@ -28,9 +28,9 @@ sent_from b s [] = b.last s
 sent_from b s (x ∷ xs) = b.sends s x ++ (if b.ends s x then b.last (b.next s x) else sent_from b (b.next s x) xs)
 
 -- the rejects for the same records in turn, and then those of the end
-abbrev pub refused_from : {S : Type 0} → Behaviour S → S → List Rec → List Rec
-refused_from b s [] = b.last_rejects s
-refused_from b s (x ∷ xs) = b.rejects s x ++ (if b.ends s x then b.last_rejects (b.next s x) else refused_from b (b.next s x) xs)
+abbrev pub rejected_from : {S : Type 0} → Behaviour S → S → List Rec → List Rec
+rejected_from b s [] = b.last_rejects s
+rejected_from b s (x ∷ xs) = b.rejects s x ++ (if b.ends s x then b.last_rejects (b.next s x) else rejected_from b (b.next s x) xs)
 
 -- the state after these records, whether or not one of them ends the node
 abbrev pub state_from : {S : Type 0} → Behaviour S → S → List Rec → S
@@ -43,7 +43,7 @@ node b o xs = sent_from b (b.opening o) xs
 
 -- what node `o` rejects for a list of records
 abbrev pub refused : {S : Type 0} → Behaviour S → S → List Rec → List Rec
-refused b o xs = refused_from b (b.opening o) xs
+refused b o xs = rejected_from b (b.opening o) xs
 
 -- how many records node `o` rejects for a list of records
 abbrev pub rejected : {S : Type 0} → Behaviour S → S → List Rec → ℕ
@@ -55,9 +55,9 @@ line b [] xs = xs
 line b (o ∷ os) xs = line b os (node b o xs)
 
 -- what these nodes reject along the way
-abbrev pub line_refused : {S : Type 0} → Behaviour S → List S → List Rec → List Rec
-line_refused b [] xs = []
-line_refused b (o ∷ os) xs = refused b o xs ++ line_refused b os (node b o xs)
+abbrev pub pipeline_rejected : {S : Type 0} → Behaviour S → List S → List Rec → List Rec
+pipeline_rejected b [] xs = []
+pipeline_rejected b (o ∷ os) xs = refused b o xs ++ pipeline_rejected b os (node b o xs)
 
 -- what a node does is fixed when it is made: no state changes its opening state or its class
 pub record KeepsKind {S : Type 0} (b : Behaviour S) : Type 0 where

@@ -6,7 +6,7 @@ use Rattle.ff_rec.specs.Lines.{Rec}
 use Rattle.ff_rec.specs.Fields.{contents, having, lacking}
 use Rattle.ff_node.specs.declared.class.Class.{Class}
 use Rattle.ff_node.specs.declared.class.Class.TheVariants.{Plain, Ordered, Fold, Keyed}
-use Rattle.ff_node.specs.Behaviour.{Behaviour, state_from, node, refused}
+use Rattle.ff_node.specs.Behaviour.{Behaviour, state_from, node, node_rejected}
 
 -- the state that these records lead to
 abbrev pub reached : {S : Type 0} → Behaviour S → S → List Rec → S
@@ -25,15 +25,15 @@ pub record IsFoldNode {S : Type 0} (b : Behaviour S) (o : S) : Type 0 where
   pub sends : (ys : List Rec) (x : Rec) → b.sends (reached b o ys) x ≡ []
   pub ends : (ys : List Rec) (x : Rec) → b.ends (reached b o ys) x ≡ false
   pub any_order : (xs ys : List Rec) → Same xs ys → node b o xs ≡ node b o ys
-  pub refused_any_order : (xs ys : List Rec) → Same xs ys → Same (refused b o xs) (refused b o ys)
+  pub rejected_any_order : (xs ys : List Rec) → Same xs ys → Same (node_rejected b o xs) (node_rejected b o ys)
 
 -- Keyed(f): a Fold whose answer is that of the records of each content of field f alone, in byte order of the contents
 pub record IsKeyedNode {S : Type 0} (b : Behaviour S) (f : ℕ) (o : S) : Type 0 where
   pub fold : IsFoldNode b o
   pub parts : (xs : List Rec) → node b o xs ≡ flat_map (λ k. node b o (having f k xs)) (contents f xs)
-  pub refused_parts : (xs : List Rec)
-      → Same (refused b o xs) (flat_map (λ k. refused b o (having f k xs)) (contents f xs) ++ refused b o (lacking f xs))
-  pub refused_nothing : refused b o [] ≡ []
+  pub rejected_parts : (xs : List Rec)
+      → Same (node_rejected b o xs) (flat_map (λ k. node_rejected b o (having f k xs)) (contents f xs) ++ node_rejected b o (lacking f xs))
+  pub rejected_nothing : node_rejected b o [] ≡ []
 
 -- the law of a class; Ordered has none
 abbrev pub ClassLaw : {S : Type 0} → Behaviour S → S → Class → Type 0

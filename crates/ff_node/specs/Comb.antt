@@ -4,7 +4,7 @@ use Rattle.ff_rec.specs.Lines.{Rec}
 use Rattle.ff_rec.specs.Weights.{Same}
 use Rattle.ff_node.specs.declared.class.Class.{Class}
 use Rattle.ff_node.specs.declared.class.Class.TheVariants.{Plain, Ordered, Fold}
-use Rattle.ff_node.specs.Behaviour.{Behaviour, node, refused, line, line_refused, sent_from, refused_from}
+use Rattle.ff_node.specs.Behaviour.{Behaviour, node, node_rejected, pipeline, pipeline_rejected, sent_from, rejected_from}
 
 -- a node of a comb, and whether it has ended by itself
 pub record Part (N : Type 0) : Type 0 where
@@ -30,9 +30,9 @@ given_from b s [] = []
 given_from b s (x ∷ xs) = b.sends s x ++ (if b.ends s x then b.last (b.next s x) else given_from b (b.next s x) xs)
 
 -- what it rejects for them
-abbrev pub dropped_from : {N : Type 0} → Behaviour N → N → List Rec → List Rec
-dropped_from b s [] = []
-dropped_from b s (x ∷ xs) = b.rejects s x ++ (if b.ends s x then b.last_rejects (b.next s x) else dropped_from b (b.next s x) xs)
+abbrev pub given_rejected : {N : Type 0} → Behaviour N → N → List Rec → List Rec
+given_rejected b s [] = []
+given_rejected b s (x ∷ xs) = b.rejects s x ++ (if b.ends s x then b.last_rejects (b.next s x) else given_rejected b (b.next s x) xs)
 
 -- the part that it is after them; a node that has ended is in its opening state
 abbrev pub part_from : {N : Type 0} → Behaviour N → N → List Rec → Part N
@@ -45,7 +45,7 @@ part_sends b p us = if p.ended then [] else given_from b p.node us
 
 -- what it rejects for them
 abbrev pub part_rejects : {N : Type 0} → Behaviour N → Part N → List Rec → List Rec
-part_rejects b p us = if p.ended then [] else dropped_from b p.node us
+part_rejects b p us = if p.ended then [] else given_rejected b p.node us
 
 -- what it is after them
 abbrev pub part_after : {N : Type 0} → Behaviour N → Part N → List Rec → Part N
@@ -57,7 +57,7 @@ part_total b p us = if p.ended then [] else sent_from b p.node us
 
 -- what it rejects for them and at its end
 abbrev pub part_total_rejects : {N : Type 0} → Behaviour N → Part N → List Rec → List Rec
-part_total_rejects b p us = if p.ended then [] else refused_from b p.node us
+part_total_rejects b p us = if p.ended then [] else rejected_from b p.node us
 
 -- what comes out behind the last part for these records
 abbrev pub through : {N : Type 0} → Behaviour N → List (Part N) → List Rec → List Rec
@@ -134,7 +134,7 @@ nodes_of ps = map (λ p. p.node) ps
 -- a comb sends what its nodes send one behind another, and rejects each record as often as they do along the way
 abbrev pub CombIsLine : {N : Type 0} → Behaviour N → Type 0
 CombIsLine {N} b = (ps : List (Part N)) (xs : List Rec)
-    → (node (comb_node b) ps xs ≡ line b (nodes_of ps) xs) × Same (refused (comb_node b) ps xs) (line_refused b (nodes_of ps) xs)
+    → (node (comb_node b) ps xs ≡ pipeline b (nodes_of ps) xs) × Same (node_rejected (comb_node b) ps xs) (pipeline_rejected b (nodes_of ps) xs)
 
 -- a comb whose first node runs ends after the records that end this node
 abbrev pub CombEndsWithFirst : {N : Type 0} → Behaviour N → Type 0

@@ -6,12 +6,12 @@ use Rattle.ff_rec.specs.Lines.{Rec}
 use Rattle.ff_rec.specs.Fields.{having, lacking, contents}
 use Rattle.ff_rec.specs.Weights.{weigh, Same}
 use Rattle.ff_rec.proofs.WeightLaws.{Same-≡, Same-sym, Same-trans, Same-append, Same-nil, Same-refl, weigh-append}
-use Rattle.ff_node.specs.Behaviour.{Behaviour, node, refused, line, line_refused}
+use Rattle.ff_node.specs.Behaviour.{Behaviour, node, node_rejected, pipeline, pipeline_rejected}
 use Rattle.ff_node.specs.Classes.{reached, IsPlainNode, IsFoldNode, IsKeyedNode}
 use Rattle.ff_node.specs.OnLists.{GoesByCounts}
 use Rattle.ff_node.specs.OnListsLaws.{GoesByCounts-plain, GoesByCounts-fold}
 use Rattle.ff_node.specs.Comb.{Part, given_from, part_from, part_sends, through, through_rejects, through_after, total, total_rejects, opened, first_ended, comb_node, nodes_of}
-use Rattle.ff_node.specs.CombLaws.{node-comb, refused-comb, state_from-opened}
+use Rattle.ff_node.specs.CombLaws.{node-comb, node_rejected-comb, state_from-opened}
 use Rattle.ff_node.specs.CombStates.{part_after-ended, part_sends-plain, part_rejects-plain, part_total-plain, part_total_rejects-plain, part_sends-fold, on-plain, on-fold}
 
 -- functions that agree
@@ -91,17 +91,17 @@ module _ {N : Type 0} (b : Behaviour N) where
   ]
 
   -- the order of the records is lost at the Fold
-  line-any_order : (ps : List (Part N)) → HasFold b ps → (xs ys : List Rec) → Same xs ys → line b (nodes_of ps) xs ≡ line b (nodes_of ps) ys
-  line-any_order [] h xs ys s = absurd h
-  line-any_order (p ∷ ps) h xs ys s = elim h [
-    | inl fold ↦ ap (line b (nodes_of ps)) (fold.any_order xs ys s)
-    | inr later ↦ line-any_order ps later.1 (node b p.node xs) (node b p.node ys) (GoesByCounts-plain b p.node later.0 xs ys s).0
+  pipeline-any_order : (ps : List (Part N)) → HasFold b ps → (xs ys : List Rec) → Same xs ys → pipeline b (nodes_of ps) xs ≡ pipeline b (nodes_of ps) ys
+  pipeline-any_order [] h xs ys s = absurd h
+  pipeline-any_order (p ∷ ps) h xs ys s = elim h [
+    | inl fold ↦ ap (pipeline b (nodes_of ps)) (fold.any_order xs ys s)
+    | inr later ↦ pipeline-any_order ps later.1 (node b p.node xs) (node b p.node ys) (GoesByCounts-plain b p.node later.0 xs ys s).0
   ]
 
-  line_refused-any_order : (ps : List (Part N)) → GoByCounts b ps → (xs ys : List Rec) → Same xs ys → Same (line_refused b (nodes_of ps) xs) (line_refused b (nodes_of ps) ys)
-  line_refused-any_order [] h xs ys s = Same-refl []
-  line_refused-any_order (p ∷ ps) h xs ys s =
-      Same-append (h.0 xs ys s).1 (line_refused-any_order ps h.1 (node b p.node xs) (node b p.node ys) (h.0 xs ys s).0)
+  pipeline_rejected-any_order : (ps : List (Part N)) → GoByCounts b ps → (xs ys : List Rec) → Same xs ys → Same (pipeline_rejected b (nodes_of ps) xs) (pipeline_rejected b (nodes_of ps) ys)
+  pipeline_rejected-any_order [] h xs ys s = Same-refl []
+  pipeline_rejected-any_order (p ∷ ps) h xs ys s =
+      Same-append (h.0 xs ys s).1 (pipeline_rejected-any_order ps h.1 (node b p.node xs) (node b p.node ys) (h.0 xs ys s).0)
 
   -- the states of a comb are those of its parts
   comb-reached : (ps : List (Part N)) (ys : List Rec) → reached (comb_node b) ps ys ≡ through_after b (map (opened b) ps) ys
@@ -120,26 +120,26 @@ module _ {N : Type 0} (b : Behaviour N) where
   IsFoldNode-comb ps h all = record {
     sends = λ ys x. ap (λ (qs : List (Part N)). through b qs (x ∷ [])) (comb-reached ps ys) ∙ through-fold ps h ys (x ∷ []);
     ends = λ ys x. ap (λ (qs : List (Part N)). first_ended (through_after b qs (x ∷ []))) (comb-reached ps ys) ∙ first_ended-fold ps h ys (x ∷ []);
-    any_order = λ xs ys s. node-comb b ps xs ∙ line-any_order ps h xs ys s ∙ sym (node-comb b ps ys);
-    refused_any_order = λ xs ys s. Same-trans (refused-comb b ps xs) (Same-trans (line_refused-any_order ps all xs ys s) (Same-sym (refused-comb b ps ys)));
+    any_order = λ xs ys s. node-comb b ps xs ∙ pipeline-any_order ps h xs ys s ∙ sym (node-comb b ps ys);
+    rejected_any_order = λ xs ys s. Same-trans (node_rejected-comb b ps xs) (Same-trans (pipeline_rejected-any_order ps all xs ys s) (Same-sym (node_rejected-comb b ps ys)));
   }
 
   -- a comb of one part rejects what the part does
-  refused-one : (p : Part N) (xs : List Rec) → Same (refused (comb_node b) (p ∷ []) xs) (refused b p.node xs)
-  refused-one p xs = Same-trans (refused-comb b (p ∷ []) xs) (Same-≡ (refused b p.node xs ++ []) (refused b p.node xs) (append-nil (refused b p.node xs)))
+  node_rejected-one : (p : Part N) (xs : List Rec) → Same (node_rejected (comb_node b) (p ∷ []) xs) (node_rejected b p.node xs)
+  node_rejected-one p xs = Same-trans (node_rejected-comb b (p ∷ []) xs) (Same-≡ (node_rejected b p.node xs ++ []) (node_rejected b p.node xs) (append-nil (node_rejected b p.node xs)))
 
-  refused-one-contents : (h : Rec → ℕ) (p : Part N) (f : ℕ) (xs : List Rec) (ks : List (List ℕ))
-      → weigh h (flat_map (λ k. refused (comb_node b) (p ∷ []) (having f k xs)) ks) ≡ weigh h (flat_map (λ k. refused b p.node (having f k xs)) ks)
-  refused-one-contents h p f xs [] = refl
-  refused-one-contents h p f xs (k ∷ ks) =
-      let comb = λ (c : List ℕ). refused (comb_node b) (p ∷ []) (having f c xs) in
-      let alone = λ (c : List ℕ). refused b p.node (having f c xs) in
+  node_rejected-one-contents : (h : Rec → ℕ) (p : Part N) (f : ℕ) (xs : List Rec) (ks : List (List ℕ))
+      → weigh h (flat_map (λ k. node_rejected (comb_node b) (p ∷ []) (having f k xs)) ks) ≡ weigh h (flat_map (λ k. node_rejected b p.node (having f k xs)) ks)
+  node_rejected-one-contents h p f xs [] = refl
+  node_rejected-one-contents h p f xs (k ∷ ks) =
+      let comb = λ (c : List ℕ). node_rejected (comb_node b) (p ∷ []) (having f c xs) in
+      let alone = λ (c : List ℕ). node_rejected b p.node (having f c xs) in
       omega (
         arith,
         weigh-append h (comb k) (flat_map comb ks),
         weigh-append h (alone k) (flat_map alone ks),
-        (refused-one p (having f k xs)).by h,
-        refused-one-contents h p f xs ks,
+        (node_rejected-one p (having f k xs)).by h,
+        node_rejected-one-contents h p f xs ks,
       )
 
   pub IsKeyedNode-comb : (p : Part N) (f : ℕ) → IsKeyedNode b f p.node → IsKeyedNode (comb_node b) f (p ∷ [])
@@ -147,19 +147,19 @@ module _ {N : Type 0} (b : Behaviour N) where
     fold = IsFoldNode-comb (p ∷ []) (inl h.fold) (GoesByCounts-fold b p.node h.fold, tt);
     parts = λ xs. node-comb b (p ∷ []) xs ∙ h.parts xs
         ∙ sym (flat_map-≡ (λ k. node (comb_node b) (p ∷ []) (having f k xs)) (λ k. node b p.node (having f k xs)) (λ k. node-comb b (p ∷ []) (having f k xs)) (contents f xs));
-    refused_parts = λ xs. record { by = λ w. refused_weights w xs };
-    refused_nothing = Same-nil (refused (comb_node b) (p ∷ []) []) (Same-sym (Same-trans (refused-one p []) (Same-≡ (refused b p.node []) [] h.refused_nothing)));
+    rejected_parts = λ xs. record { by = λ w. refused_weights w xs };
+    rejected_nothing = Same-nil (node_rejected (comb_node b) (p ∷ []) []) (Same-sym (Same-trans (node_rejected-one p []) (Same-≡ (node_rejected b p.node []) [] h.rejected_nothing)));
   }
     where
-      refused_weights : (w : Rec → ℕ) (xs : List Rec) → weigh w (refused (comb_node b) (p ∷ []) xs)
-          ≡ weigh w (flat_map (λ k. refused (comb_node b) (p ∷ []) (having f k xs)) (contents f xs) ++ refused (comb_node b) (p ∷ []) (lacking f xs))
+      refused_weights : (w : Rec → ℕ) (xs : List Rec) → weigh w (node_rejected (comb_node b) (p ∷ []) xs)
+          ≡ weigh w (flat_map (λ k. node_rejected (comb_node b) (p ∷ []) (having f k xs)) (contents f xs) ++ node_rejected (comb_node b) (p ∷ []) (lacking f xs))
       refused_weights w xs =
           omega (
             arith,
-            (refused-one p xs).by w,
-            (h.refused_parts xs).by w,
-            (refused-one p (lacking f xs)).by w,
-            refused-one-contents w p f xs (contents f xs),
-            weigh-append w (flat_map (λ k. refused (comb_node b) (p ∷ []) (having f k xs)) (contents f xs)) (refused (comb_node b) (p ∷ []) (lacking f xs)),
-            weigh-append w (flat_map (λ k. refused b p.node (having f k xs)) (contents f xs)) (refused b p.node (lacking f xs)),
+            (node_rejected-one p xs).by w,
+            (h.rejected_parts xs).by w,
+            (node_rejected-one p (lacking f xs)).by w,
+            node_rejected-one-contents w p f xs (contents f xs),
+            weigh-append w (flat_map (λ k. node_rejected (comb_node b) (p ∷ []) (having f k xs)) (contents f xs)) (node_rejected (comb_node b) (p ∷ []) (lacking f xs)),
+            weigh-append w (flat_map (λ k. node_rejected b p.node (having f k xs)) (contents f xs)) (node_rejected b p.node (lacking f xs)),
           )

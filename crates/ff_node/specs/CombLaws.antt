@@ -4,7 +4,7 @@ use Rattle.std.proofs.Common.{◌∙◌, sym, ap, ap₂, arith}
 use Rattle.ff_rec.specs.Lines.{Rec}
 use Rattle.ff_rec.specs.Weights.{weigh, Same}
 use Rattle.ff_rec.proofs.WeightLaws.{weigh-append}
-use Rattle.ff_node.specs.Behaviour.{Behaviour, node, refused, line, line_refused, sent_from, refused_from, state_from}
+use Rattle.ff_node.specs.Behaviour.{Behaviour, node, node_rejected, pipeline, pipeline_rejected, sent_from, rejected_from, state_from}
 use Rattle.ff_node.specs.Comb.{Part, part, part_sends, part_rejects, part_after, part_total, part_total_rejects, through, through_rejects, through_after, total, total_rejects, opened, first_ended, comb_node, nodes_of, CombIsLine, CombEndsWithFirst}
 use Rattle.ff_node.specs.CombParts.{part_sends-total, part_rejects-total, part_sends-append, part_after-append}
 
@@ -59,8 +59,8 @@ module _ {N : Type 0} (b : Behaviour N) where
   pub total_rejects-ended : (ps : List (Part N)) (us : List Rec) → first_ended ps ≡ true → total_rejects b ps us ≡ total_rejects b ps []
   total_rejects-ended [] us ended = refl
   total_rejects-ended (p ∷ ps) us ended =
-      ap (λ (e : Bool). (if e then [] else refused_from b p.node us) ++ total_rejects b ps (if e then [] else sent_from b p.node us)) ended
-      ∙ sym (ap (λ (e : Bool). (if e then [] else refused_from b p.node []) ++ total_rejects b ps (if e then [] else sent_from b p.node [])) ended)
+      ap (λ (e : Bool). (if e then [] else rejected_from b p.node us) ++ total_rejects b ps (if e then [] else sent_from b p.node us)) ended
+      ∙ sym (ap (λ (e : Bool). (if e then [] else rejected_from b p.node []) ++ total_rejects b ps (if e then [] else sent_from b p.node [])) ended)
 
   -- what a comb sends and rejects for a list, in any of its states
   pub sent_from-comb : (ps : List (Part N)) (xs : List Rec) → sent_from (comb_node b) ps xs ≡ total b ps xs
@@ -76,40 +76,40 @@ module _ {N : Type 0} (b : Behaviour N) where
       by true is rest = ap (λ ys. through b ps (x ∷ []) ++ ys) (sym (total-ended (through_after b ps (x ∷ [])) xs is))
       by false is rest = ap (λ ys. through b ps (x ∷ []) ++ ys) rest
 
-  pub refused_from-comb : (h : Rec → ℕ) (ps : List (Part N)) (xs : List Rec) → weigh h (refused_from (comb_node b) ps xs) ≡ weigh h (total_rejects b ps xs)
-  refused_from-comb h ps [] = refl
-  refused_from-comb h ps (x ∷ xs) =
+  pub rejected_from-comb : (h : Rec → ℕ) (ps : List (Part N)) (xs : List Rec) → weigh h (rejected_from (comb_node b) ps xs) ≡ weigh h (total_rejects b ps xs)
+  rejected_from-comb h ps [] = refl
+  rejected_from-comb h ps (x ∷ xs) =
       let qs = through_after b ps (x ∷ []) in
-      by (first_ended qs) refl (refused_from-comb h qs xs) ∙ through_rejects-total h ps (x ∷ []) xs
+      by (first_ended qs) refl (rejected_from-comb h qs xs) ∙ through_rejects-total h ps (x ∷ []) xs
     where
       by : (e : Bool) → first_ended (through_after b ps (x ∷ [])) ≡ e
-          → weigh h (refused_from (comb_node b) (through_after b ps (x ∷ [])) xs) ≡ weigh h (total_rejects b (through_after b ps (x ∷ [])) xs)
-          → weigh h (through_rejects b ps (x ∷ []) ++ (if e then total_rejects b (through_after b ps (x ∷ [])) [] else refused_from (comb_node b) (through_after b ps (x ∷ [])) xs))
+          → weigh h (rejected_from (comb_node b) (through_after b ps (x ∷ [])) xs) ≡ weigh h (total_rejects b (through_after b ps (x ∷ [])) xs)
+          → weigh h (through_rejects b ps (x ∷ []) ++ (if e then total_rejects b (through_after b ps (x ∷ [])) [] else rejected_from (comb_node b) (through_after b ps (x ∷ [])) xs))
           ≡ weigh h (through_rejects b ps (x ∷ [])) + weigh h (total_rejects b (through_after b ps (x ∷ [])) xs)
       by true is rest =
           weigh-append h (through_rejects b ps (x ∷ [])) (total_rejects b (through_after b ps (x ∷ [])) [])
           ∙ ap (λ ys. weigh h (through_rejects b ps (x ∷ [])) + weigh h ys) (sym (total_rejects-ended (through_after b ps (x ∷ [])) xs is))
       by false is rest =
-          weigh-append h (through_rejects b ps (x ∷ [])) (refused_from (comb_node b) (through_after b ps (x ∷ [])) xs)
+          weigh-append h (through_rejects b ps (x ∷ [])) (rejected_from (comb_node b) (through_after b ps (x ∷ [])) xs)
           ∙ ap (λ n. weigh h (through_rejects b ps (x ∷ [])) + n) rest
 
   -- from the opening states on, these are the nodes one behind another
-  pub total-opened : (ps : List (Part N)) (xs : List Rec) → total b (map (opened b) ps) xs ≡ line b (nodes_of ps) xs
+  pub total-opened : (ps : List (Part N)) (xs : List Rec) → total b (map (opened b) ps) xs ≡ pipeline b (nodes_of ps) xs
   total-opened [] xs = refl
   total-opened (p ∷ ps) xs = total-opened ps (node b p.node xs)
 
-  pub total_rejects-opened : (ps : List (Part N)) (xs : List Rec) → total_rejects b (map (opened b) ps) xs ≡ line_refused b (nodes_of ps) xs
+  pub total_rejects-opened : (ps : List (Part N)) (xs : List Rec) → total_rejects b (map (opened b) ps) xs ≡ pipeline_rejected b (nodes_of ps) xs
   total_rejects-opened [] xs = refl
-  total_rejects-opened (p ∷ ps) xs = ap (λ ys. refused b p.node xs ++ ys) (total_rejects-opened ps (node b p.node xs))
+  total_rejects-opened (p ∷ ps) xs = ap (λ ys. node_rejected b p.node xs ++ ys) (total_rejects-opened ps (node b p.node xs))
 
-  pub node-comb : (ps : List (Part N)) (xs : List Rec) → node (comb_node b) ps xs ≡ line b (nodes_of ps) xs
+  pub node-comb : (ps : List (Part N)) (xs : List Rec) → node (comb_node b) ps xs ≡ pipeline b (nodes_of ps) xs
   node-comb ps xs = sent_from-comb (map (opened b) ps) xs ∙ total-opened ps xs
 
-  pub refused-comb : (ps : List (Part N)) (xs : List Rec) → Same (refused (comb_node b) ps xs) (line_refused b (nodes_of ps) xs)
-  refused-comb ps xs = record { by = λ h. refused_from-comb h (map (opened b) ps) xs ∙ ap (weigh h) (total_rejects-opened ps xs) }
+  pub node_rejected-comb : (ps : List (Part N)) (xs : List Rec) → Same (node_rejected (comb_node b) ps xs) (pipeline_rejected b (nodes_of ps) xs)
+  node_rejected-comb ps xs = record { by = λ h. rejected_from-comb h (map (opened b) ps) xs ∙ ap (weigh h) (total_rejects-opened ps xs) }
 
-  pub comb-is_line : CombIsLine b
-  comb-is_line ps xs = (node-comb ps xs, refused-comb ps xs)
+  pub comb-is_pipeline : CombIsLine b
+  comb-is_pipeline ps xs = (node-comb ps xs, node_rejected-comb ps xs)
 
   pub comb-ends_with_first : CombEndsWithFirst b
   comb-ends_with_first o ps x = by (b.ends o x)

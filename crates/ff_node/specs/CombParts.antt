@@ -2,8 +2,8 @@
 use Rattle.std.specs.Prelude.{◌≡◌, Bool, true, false, if◌then◌else◌, List, [], ◌∷◌, ◌++◌, refl}
 use Rattle.std.proofs.Common.{◌∙◌, ap, append_assoc, append-nil}
 use Rattle.ff_rec.specs.Lines.{Rec}
-use Rattle.ff_node.specs.Behaviour.{Behaviour, sent_from, refused_from}
-use Rattle.ff_node.specs.Comb.{Part, part, given_from, dropped_from, part_from, part_sends, part_rejects, part_after, part_total, part_total_rejects}
+use Rattle.ff_node.specs.Behaviour.{Behaviour, sent_from, rejected_from}
+use Rattle.ff_node.specs.Comb.{Part, part, given_from, given_rejected, part_from, part_sends, part_rejects, part_after, part_total, part_total_rejects}
 
 module _ {N : Type 0} (b : Behaviour N) where
   -- a node's records in two steps: what it sends for the first of them, and then what the part that it is sends
@@ -20,16 +20,16 @@ module _ {N : Type 0} (b : Behaviour N) where
           ∙ ap (λ ys. b.sends s x ++ ys) rest
 
   -- the same of what it rejects
-  pub dropped_from-total : (s : N) (us vs : List Rec) → dropped_from b s us ++ part_total_rejects b (part_from b s us) vs ≡ refused_from b s (us ++ vs)
-  dropped_from-total s [] vs = refl
-  dropped_from-total s (x ∷ xs) vs = by (b.ends s x) (dropped_from-total (b.next s x) xs vs)
+  pub given_rejected-total : (s : N) (us vs : List Rec) → given_rejected b s us ++ part_total_rejects b (part_from b s us) vs ≡ rejected_from b s (us ++ vs)
+  given_rejected-total s [] vs = refl
+  given_rejected-total s (x ∷ xs) vs = by (b.ends s x) (given_rejected-total (b.next s x) xs vs)
     where
-      by : (e : Bool) → dropped_from b (b.next s x) xs ++ part_total_rejects b (part_from b (b.next s x) xs) vs ≡ refused_from b (b.next s x) (xs ++ vs)
-          → (b.rejects s x ++ (if e then b.last_rejects (b.next s x) else dropped_from b (b.next s x) xs))
+      by : (e : Bool) → given_rejected b (b.next s x) xs ++ part_total_rejects b (part_from b (b.next s x) xs) vs ≡ rejected_from b (b.next s x) (xs ++ vs)
+          → (b.rejects s x ++ (if e then b.last_rejects (b.next s x) else given_rejected b (b.next s x) xs))
           ++ part_total_rejects b (if e then part (b.opening (b.next s x)) true else part_from b (b.next s x) xs) vs
-          ≡ b.rejects s x ++ (if e then b.last_rejects (b.next s x) else refused_from b (b.next s x) (xs ++ vs))
+          ≡ b.rejects s x ++ (if e then b.last_rejects (b.next s x) else rejected_from b (b.next s x) (xs ++ vs))
       by true rest = append-nil (b.rejects s x ++ b.last_rejects (b.next s x))
-      by false rest = append_assoc (b.rejects s x) (dropped_from b (b.next s x) xs) (part_total_rejects b (part_from b (b.next s x) xs) vs)
+      by false rest = append_assoc (b.rejects s x) (given_rejected b (b.next s x) xs) (part_total_rejects b (part_from b (b.next s x) xs) vs)
           ∙ ap (λ ys. b.rejects s x ++ ys) rest
 
   -- records in two steps, before the end
@@ -45,16 +45,16 @@ module _ {N : Type 0} (b : Behaviour N) where
       by false rest = append_assoc (b.sends s x) (given_from b (b.next s x) xs) (part_sends b (part_from b (b.next s x) xs) vs)
           ∙ ap (λ ys. b.sends s x ++ ys) rest
 
-  pub dropped_from-append : (s : N) (us vs : List Rec) → dropped_from b s us ++ part_rejects b (part_from b s us) vs ≡ dropped_from b s (us ++ vs)
-  dropped_from-append s [] vs = refl
-  dropped_from-append s (x ∷ xs) vs = by (b.ends s x) (dropped_from-append (b.next s x) xs vs)
+  pub given_rejected-append : (s : N) (us vs : List Rec) → given_rejected b s us ++ part_rejects b (part_from b s us) vs ≡ given_rejected b s (us ++ vs)
+  given_rejected-append s [] vs = refl
+  given_rejected-append s (x ∷ xs) vs = by (b.ends s x) (given_rejected-append (b.next s x) xs vs)
     where
-      by : (e : Bool) → dropped_from b (b.next s x) xs ++ part_rejects b (part_from b (b.next s x) xs) vs ≡ dropped_from b (b.next s x) (xs ++ vs)
-          → (b.rejects s x ++ (if e then b.last_rejects (b.next s x) else dropped_from b (b.next s x) xs))
+      by : (e : Bool) → given_rejected b (b.next s x) xs ++ part_rejects b (part_from b (b.next s x) xs) vs ≡ given_rejected b (b.next s x) (xs ++ vs)
+          → (b.rejects s x ++ (if e then b.last_rejects (b.next s x) else given_rejected b (b.next s x) xs))
           ++ part_rejects b (if e then part (b.opening (b.next s x)) true else part_from b (b.next s x) xs) vs
-          ≡ b.rejects s x ++ (if e then b.last_rejects (b.next s x) else dropped_from b (b.next s x) (xs ++ vs))
+          ≡ b.rejects s x ++ (if e then b.last_rejects (b.next s x) else given_rejected b (b.next s x) (xs ++ vs))
       by true rest = append-nil (b.rejects s x ++ b.last_rejects (b.next s x))
-      by false rest = append_assoc (b.rejects s x) (dropped_from b (b.next s x) xs) (part_rejects b (part_from b (b.next s x) xs) vs)
+      by false rest = append_assoc (b.rejects s x) (given_rejected b (b.next s x) xs) (part_rejects b (part_from b (b.next s x) xs) vs)
           ∙ ap (λ ys. b.rejects s x ++ ys) rest
 
   pub part_from-append : (s : N) (us vs : List Rec) → part_after b (part_from b s us) vs ≡ part_from b s (us ++ vs)
@@ -78,9 +78,9 @@ module _ {N : Type 0} (b : Behaviour N) where
   pub part_rejects-total : (p : Part N) (us vs : List Rec) → part_rejects b p us ++ part_total_rejects b (part_after b p us) vs ≡ part_total_rejects b p (us ++ vs)
   part_rejects-total p us vs = by p.ended refl
     where
-      by : (e : Bool) → p.ended ≡ e → (if e then [] else dropped_from b p.node us) ++ part_total_rejects b (if e then p else part_from b p.node us) vs ≡ (if e then [] else refused_from b p.node (us ++ vs))
-      by true is = ap (λ (e : Bool). if e then [] else refused_from b p.node vs) is
-      by false is = dropped_from-total p.node us vs
+      by : (e : Bool) → p.ended ≡ e → (if e then [] else given_rejected b p.node us) ++ part_total_rejects b (if e then p else part_from b p.node us) vs ≡ (if e then [] else rejected_from b p.node (us ++ vs))
+      by true is = ap (λ (e : Bool). if e then [] else rejected_from b p.node vs) is
+      by false is = given_rejected-total p.node us vs
 
   pub part_sends-append : (p : Part N) (us vs : List Rec) → part_sends b p us ++ part_sends b (part_after b p us) vs ≡ part_sends b p (us ++ vs)
   part_sends-append p us vs = by p.ended refl

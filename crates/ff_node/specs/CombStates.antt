@@ -6,7 +6,7 @@ use Rattle.ff_rec.specs.Lines.{Rec}
 use Rattle.ff_node.specs.Behaviour.{Behaviour}
 use Rattle.ff_node.specs.Classes.{reached, IsPlainNode, IsFoldNode}
 use Rattle.ff_node.specs.OnListsLaws.{reached-next}
-use Rattle.ff_node.specs.Comb.{Part, part, given_from, dropped_from, part_from, part_sends, part_rejects, part_after, part_total, part_total_rejects}
+use Rattle.ff_node.specs.Comb.{Part, part, given_from, given_rejected, part_from, part_sends, part_rejects, part_after, part_total, part_total_rejects}
 
 -- it never ends by itself
 pub record GoesOnAlways {S : Type 0} (b : Behaviour S) (o : S) : Type 0 where
@@ -36,12 +36,12 @@ module _ {N : Type 0} (b : Behaviour N) (o : N) where
       ∙ ap₂ (λ (front : List Rec) (s : N). front ++ given_from b s us) (h.sends ys x) (reached-next b o ys x)
       ∙ ap (λ (back : List Rec). b.sends (b.opening o) x ++ back) (given_from-plain h (ys ++ x ∷ []) us)
 
-  dropped_from-plain : IsPlainNode b o → (ys us : List Rec) → dropped_from b (reached b o ys) us ≡ flat_map (b.rejects (b.opening o)) us
-  dropped_from-plain h ys [] = refl
-  dropped_from-plain h ys (x ∷ us) =
-      ap (λ (e : Bool). b.rejects (reached b o ys) x ++ (if e then b.last_rejects (b.next (reached b o ys) x) else dropped_from b (b.next (reached b o ys) x) us)) (h.ends ys x)
-      ∙ ap₂ (λ (front : List Rec) (s : N). front ++ dropped_from b s us) (h.rejects ys x) (reached-next b o ys x)
-      ∙ ap (λ (back : List Rec). b.rejects (b.opening o) x ++ back) (dropped_from-plain h (ys ++ x ∷ []) us)
+  given_rejected-plain : IsPlainNode b o → (ys us : List Rec) → given_rejected b (reached b o ys) us ≡ flat_map (b.rejects (b.opening o)) us
+  given_rejected-plain h ys [] = refl
+  given_rejected-plain h ys (x ∷ us) =
+      ap (λ (e : Bool). b.rejects (reached b o ys) x ++ (if e then b.last_rejects (b.next (reached b o ys) x) else given_rejected b (b.next (reached b o ys) x) us)) (h.ends ys x)
+      ∙ ap₂ (λ (front : List Rec) (s : N). front ++ given_rejected b s us) (h.rejects ys x) (reached-next b o ys x)
+      ∙ ap (λ (back : List Rec). b.rejects (b.opening o) x ++ back) (given_rejected-plain h (ys ++ x ∷ []) us)
 
   pub on-plain : IsPlainNode b o → GoesOnAlways b o
   on-plain h = record { ends = h.ends }
@@ -50,9 +50,9 @@ module _ {N : Type 0} (b : Behaviour N) (o : N) where
   part_sends-plain h ys us =
       ap (λ (p : Part N). part_sends b p us) (part_after-on (on-plain h) ys) ∙ given_from-plain h ys us ∙ sym (given_from-plain h [] us)
 
-  pub part_rejects-plain : IsPlainNode b o → (ys us : List Rec) → part_rejects b (part_from b (b.opening o) ys) us ≡ dropped_from b (b.opening o) us
+  pub part_rejects-plain : IsPlainNode b o → (ys us : List Rec) → part_rejects b (part_from b (b.opening o) ys) us ≡ given_rejected b (b.opening o) us
   part_rejects-plain h ys us =
-      ap (λ (p : Part N). part_rejects b p us) (part_after-on (on-plain h) ys) ∙ dropped_from-plain h ys us ∙ sym (dropped_from-plain h [] us)
+      ap (λ (p : Part N). part_rejects b p us) (part_after-on (on-plain h) ys) ∙ given_rejected-plain h ys us ∙ sym (given_rejected-plain h [] us)
 
   pub part_total-plain : IsPlainNode b o → (ys : List Rec) → part_total b (part_from b (b.opening o) ys) [] ≡ []
   part_total-plain h ys = ap (λ (p : Part N). part_total b p []) (part_after-on (on-plain h) ys) ∙ h.last ys

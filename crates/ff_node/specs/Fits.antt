@@ -5,7 +5,7 @@ use Rattle.std.specs.List.{AllByRecursion, flat_map}
 use Rattle.ff_rec.specs.Lines.{Rec}
 use Rattle.ff_rec.specs.Streams.{at, carried}
 use Rattle.ff_rec.specs.declared.msg.Msg.TheVariants.{Item, Mark, Pick, Eos, Abort}
-use Rattle.ff_node.specs.Behaviour.{Behaviour, node, refused, rejected}
+use Rattle.ff_node.specs.Behaviour.{Behaviour, node, node_rejected, node_rejected_count}
 use Rattle.ff_node.specs.Picks.{ArePicks, share, turns, by_key}
 use Rattle.ff_node.specs.Runs.{Message}
 use Rattle.ff_node.specs.Sends.{counted}
@@ -37,8 +37,8 @@ pub record FitsStage {S : Type 0} (b : Behaviour S) (o : S) (ins outs : List (Li
 
 -- the rejects of a stage or a worker: their number, and those it holds behind those that were taken out, where it keeps them
 pub record FitsRejects {S : Type 0} (b : Behaviour S) (o : S) (keeps : Bool) (xs : List Rec) (number : ℕ) (taken held : List Rec) : Type 0 where
-  pub number_is : number ≡ counted (rejected b o xs)
-  pub kept : keeps ≡ true → taken ++ held ≡ refused b o xs
+  pub number_is : number ≡ counted (node_rejected_count b o xs)
+  pub kept : keeps ≡ true → taken ++ held ≡ node_rejected b o xs
   pub none : keeps ≡ false → held ≡ []
 
 -- a worker: for each task its sends and a Mark

@@ -2,7 +2,6 @@ pub mod Behaviour
 pub mod Classes
 pub mod Sends
 pub mod Next
-pub mod Records
 pub mod Stateless
 pub mod OnLists
 pub mod OnListsLaws
@@ -17,4 +16,3 @@ pub mod CombClasses
 pub mod Runs
 pub mod Picks
 pub mod Fits
-pub mod Cmp

@@ -9,7 +9,7 @@ use Rattle.ff_rec.proofs.WeightLaws.{Same-≡, Same-flat_map}
 use Rattle.ff_rec.proofs.Splits.{IsMadeByContents, Same-split, contents-lacking}
 use Rattle.ff_node.specs.declared.class.Class.{Class}
 use Rattle.ff_node.specs.declared.class.Class.TheVariants.{Plain, Ordered, Fold, Keyed}
-use Rattle.ff_node.specs.Behaviour.{Behaviour, node, refused, sent_from, refused_from, state_from}
+use Rattle.ff_node.specs.Behaviour.{Behaviour, node, node_rejected, sent_from, rejected_from, state_from}
 use Rattle.ff_node.specs.Classes.{reached, IsPlainNode, IsFoldNode, IsKeyedNode, ClassLaw}
 use Rattle.ff_node.specs.OnLists.{GoesByRecords, GoesByCounts, GoesByKeys, PlainGoesByRecords, UnorderedGoesByCounts, KeyedGoesByKeys}
 
@@ -32,28 +32,28 @@ module _ {S : Type 0} (b : Behaviour S) (o : S) where
       ∙ ap (λ (back : List Rec). b.sends (b.opening o) x ++ back) (sent_from-plain h (ys ++ x ∷ []) xs)
 
   -- the same of its rejects
-  pub refused_from-plain : IsPlainNode b o → (ys xs : List Rec) → refused_from b (reached b o ys) xs ≡ flat_map (b.rejects (b.opening o)) xs
-  refused_from-plain h ys [] = h.last_rejects ys
-  refused_from-plain h ys (x ∷ xs) =
-      ap (λ (e : Bool). b.rejects (reached b o ys) x ++ (if e then b.last_rejects (b.next (reached b o ys) x) else refused_from b (b.next (reached b o ys) x) xs)) (h.ends ys x)
-      ∙ ap₂ (λ (front : List Rec) (s : S). front ++ refused_from b s xs) (h.rejects ys x) (reached-next ys x)
-      ∙ ap (λ (back : List Rec). b.rejects (b.opening o) x ++ back) (refused_from-plain h (ys ++ x ∷ []) xs)
+  pub rejected_from-plain : IsPlainNode b o → (ys xs : List Rec) → rejected_from b (reached b o ys) xs ≡ flat_map (b.rejects (b.opening o)) xs
+  rejected_from-plain h ys [] = h.last_rejects ys
+  rejected_from-plain h ys (x ∷ xs) =
+      ap (λ (e : Bool). b.rejects (reached b o ys) x ++ (if e then b.last_rejects (b.next (reached b o ys) x) else rejected_from b (b.next (reached b o ys) x) xs)) (h.ends ys x)
+      ∙ ap₂ (λ (front : List Rec) (s : S). front ++ rejected_from b s xs) (h.rejects ys x) (reached-next ys x)
+      ∙ ap (λ (back : List Rec). b.rejects (b.opening o) x ++ back) (rejected_from-plain h (ys ++ x ∷ []) xs)
 
   pub GoesByRecords-plain : IsPlainNode b o → GoesByRecords b o
-  GoesByRecords-plain h xs = (sent_from-plain h [] xs, refused_from-plain h [] xs)
+  GoesByRecords-plain h xs = (sent_from-plain h [] xs, rejected_from-plain h [] xs)
 
   pub GoesByCounts-plain : IsPlainNode b o → GoesByCounts b o
   GoesByCounts-plain h xs ys s =
       let sends : Same (node b o xs) (node b o ys) = record {
         by = λ w. ap (weigh w) (sent_from-plain h [] xs) ∙ (Same-flat_map (b.sends (b.opening o)) s).by w ∙ sym (ap (weigh w) (sent_from-plain h [] ys));
       } in
-      let rejects : Same (refused b o xs) (refused b o ys) = record {
-        by = λ w. ap (weigh w) (refused_from-plain h [] xs) ∙ (Same-flat_map (b.rejects (b.opening o)) s).by w ∙ sym (ap (weigh w) (refused_from-plain h [] ys));
+      let rejects : Same (node_rejected b o xs) (node_rejected b o ys) = record {
+        by = λ w. ap (weigh w) (rejected_from-plain h [] xs) ∙ (Same-flat_map (b.rejects (b.opening o)) s).by w ∙ sym (ap (weigh w) (rejected_from-plain h [] ys));
       } in
       (sends, rejects)
 
   pub GoesByCounts-fold : IsFoldNode b o → GoesByCounts b o
-  GoesByCounts-fold h xs ys s = (Same-≡ (node b o xs) (node b o ys) (h.any_order xs ys s), h.refused_any_order xs ys s)
+  GoesByCounts-fold h xs ys s = (Same-≡ (node b o xs) (node b o ys) (h.any_order xs ys s), h.rejected_any_order xs ys s)
 
   pub GoesByKeys-keyed : (f : ℕ) → IsKeyedNode b f o → GoesByKeys b f o
   GoesByKeys-keyed f h =
@@ -67,12 +67,12 @@ module _ {S : Type 0} (b : Behaviour S) (o : S) where
             );
         nothing = nothing [] refl;
       } in
-      let rejects : IsMadeByContents (refused b o) f = record { parts = h.refused_parts; nothing = h.refused_nothing } in
+      let rejects : IsMadeByContents (node_rejected b o) f = record { parts = h.rejected_parts; nothing = h.rejected_nothing } in
       record {
         sends = Same-split (node b o) f sends;
-        rejects = Same-split (refused b o) f rejects;
+        rejects = Same-split (node_rejected b o) f rejects;
         sends_nothing = nothing [] refl;
-        rejects_nothing = h.refused_nothing;
+        rejects_nothing = h.rejected_nothing;
       }
 
 -- the three forms of all nodes that keep the law of their class

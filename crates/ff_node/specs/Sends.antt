@@ -1,6 +1,7 @@
 -- What a node's calls gather: the records sent, and those rejected.
 use Rattle.std.specs.Prelude.{◌≡◌, ℕ, ◌+◌, ◌-◌, ◌^◌, ◌≤◌, min, Bool, true, false, List, [], ◌∷◌, ◌++◌, length, Option, None, Some}
 use Rattle.ff_rec.specs.Lines.{Rec}
+pub use Rattle.ff_rec.specs.Counts.{count_more, counted}
 
 -- the records sent and not taken yet, the number of rejects, whether rejects are kept, and those kept and not taken yet
 pub record Sent : Type 0 where
@@ -8,11 +9,6 @@ pub record Sent : Type 0 where
   pub rejects : ℕ
   pub keeps : Bool
   pub kept : List Rec
-
--- a count of 64 bits, raised by one for each record, that stands still at its last value
-abbrev pub count_more : ℕ → List Rec → ℕ
-count_more n [] = n
-count_more n (x ∷ xs) = count_more (min (n + 1) (2 ^ 64 - 1)) xs
 
 -- the records that are kept
 abbrev pub kept_of : Bool → List Rec → List Rec
@@ -42,7 +38,3 @@ TakesSend s (Some x) t = s ≡ record t { sends = x ∷ t.sends }
 abbrev pub TakesReject : Sent → Option Rec → Sent → Type 0
 TakesReject s None t = (s.kept ≡ []) × (t ≡ s)
 TakesReject s (Some x) t = s ≡ record t { kept = x ∷ t.kept }
-
--- a number, as far as a count of 64 bits tells
-abbrev pub counted : ℕ → ℕ
-counted n = min n (2 ^ 64 - 1)

@@ -1,7 +1,7 @@
 // Records on their way through the parts of a comb.
 ghost use Rattle.std.specs.Prelude.{◌≡◌, ◌≤◌, [], ◌∷◌, map, length, IfOk, OnOk};
 ghost use Rattle.ff_node.specs.Sends.{add};
-ghost use Rattle.ff_node.specs.Comb.{part, parts, given_from, dropped_from, part_from, part_sends, part_rejects, part_after, part_total, part_total_rejects, through, through_rejects, through_after, total, total_rejects};
+ghost use Rattle.ff_node.specs.Comb.{part, parts, given_from, given_rejected, part_from, part_sends, part_rejects, part_after, part_total, part_total_rejects, through, through_rejects, through_after, total, total_rejects};
 
 use crate::{Next, Node, Sends};
 use ff_rec::{NoMemory, Record};
@@ -11,7 +11,7 @@ use std::collections::VecDeque;
 fn step<N: Node>(node: &mut N, r: Record, out: &mut Sends) -> Result<bool, NoMemory>
     ensures kind { N.does.opening node.new ≡ N.does.opening node.old }
     ensures state { IfOk result (λ ended. part node.new ended ≡ part_from N.does node.old (r ∷ [])) }
-    ensures sends { OnOk result (out.new ≡ add out.old (given_from N.does node.old (r ∷ [])) (dropped_from N.does node.old (r ∷ []))) }
+    ensures sends { OnOk result (out.new ≡ add out.old (given_from N.does node.old (r ∷ [])) (given_rejected N.does node.old (r ∷ []))) }
 {
     match node.svc(r, out)? {
         Next::GoOn => Ok(false),

@@ -2,8 +2,7 @@
 ghost use Rattle.std.specs.Prelude.{◌≡◌, ◌∷◌, ◌++◌, [], length, true, false, IsOk, OnOk, OnErr};
 ghost use Rattle.ff_node.specs.Sends.{add, nothing_sent, IsCounted, TakesSend, TakesReject};
 
-use crate::copies::copies;
-use ff_rec::{Kept, NoMemory, Record};
+use ff_rec::{Kept, NoMemory, Record, copies};
 use std::alloc::Global;
 use std::collections::VecDeque;
 use std::marker::Model;

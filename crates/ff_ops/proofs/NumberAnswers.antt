@@ -3,7 +3,7 @@ use Rattle.std.proofs.Common.{◌≡◌, ℕ, List, [], ◌∷◌, Option, None,
 use Rattle.std.specs.Prelude.{option_and_then, ◌-ℤ◌}
 use Rattle.std.specs.Option.{option_map}
 use Rattle.ff_rec.specs.Lines.{Rec}
-use Rattle.ff_node.specs.Cmp.{compares}
+use Rattle.ff_rec.specs.Cmp.{compares}
 use Rattle.ff_ops.specs.Rows.{number_in, with_number, sent_if}
 use Rattle.ff_ops.specs.NumberOps.{half, number_answer}
 use Rattle.ff_ops.specs.NumberAnswers.{field_of, answer_for, same_if, sent_by}

@@ -1,8 +1,8 @@
 -- The arguments of operations: of which kind they are, within which range, and how they stand in a text.
 use Rattle.std.specs.Prelude.{ℕ, Bool, true, false, not, ◌&&◌, List, [], ◌∷◌, ◌++◌, ℤ, pos, int_le, codes}
 use Rattle.ff_rec.specs.Number.{printed}
-use Rattle.ff_node.specs.declared.cmp.Cmp.{Cmp}
-use Rattle.ff_node.specs.declared.cmp.Cmp.TheVariants.{Lt, Le, Eq, Ne, Ge, Gt}
+use Rattle.ff_rec.specs.declared.cmp.Cmp.{Cmp}
+use Rattle.ff_rec.specs.declared.cmp.Cmp.TheVariants.{Lt, Le, Eq, Ne, Ge, Gt}
 use Rattle.ff_ops.specs.declared.arg.Arg.{Arg}
 use Rattle.ff_ops.specs.declared.arg.Arg.TheVariants.{Num, Cmp as Compared, Text}
 use Rattle.ff_ops.specs.declared.arg.ArgKind.{ArgKind}

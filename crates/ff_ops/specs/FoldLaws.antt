@@ -6,7 +6,7 @@ use Rattle.ff_rec.specs.Lines.{Rec}
 use Rattle.ff_rec.specs.Weights.{weigh, Same}
 use Rattle.ff_rec.proofs.WeightLaws.{IsPicked, Same-nil, Same-flat_map}
 use Rattle.ff_rec.proofs.Counts.{Same-pick_record}
-use Rattle.ff_node.specs.Behaviour.{Behaviour, sent_from, refused_from, state_from}
+use Rattle.ff_node.specs.Behaviour.{Behaviour, sent_from, rejected_from, state_from}
 use Rattle.ff_node.specs.Classes.{IsFoldNode, reached}
 use Rattle.ff_node.specs.OnListsLaws.{reached-next}
 
@@ -51,12 +51,12 @@ module _ {S : Type 0} (b : Behaviour S) (o : S) (h : FoldSteps b o) where
       ∙ ap (λ (s : S). b.last (state_from b s xs)) (sym (reached-next b o us x))
 
   -- each record is rejected or not as in the opening state
-  refused_from-each : (us xs : List Rec) → refused_from b (reached b o us) xs ≡ flat_map (b.rejects (b.opening o)) xs
-  refused_from-each us [] = h.last_rejects us
-  refused_from-each us (x ∷ xs) =
-      ap (λ (e : Bool). b.rejects (reached b o us) x ++ (if e then b.last_rejects (b.next (reached b o us) x) else refused_from b (b.next (reached b o us) x) xs)) (h.ends us x)
-      ∙ ap₂ (λ (front : List Rec) (s : S). front ++ refused_from b s xs) (h.rejects us x) (reached-next b o us x)
-      ∙ ap (λ (back : List Rec). b.rejects (b.opening o) x ++ back) (refused_from-each (us ++ x ∷ []) xs)
+  rejected_from-each : (us xs : List Rec) → rejected_from b (reached b o us) xs ≡ flat_map (b.rejects (b.opening o)) xs
+  rejected_from-each us [] = h.last_rejects us
+  rejected_from-each us (x ∷ xs) =
+      ap (λ (e : Bool). b.rejects (reached b o us) x ++ (if e then b.last_rejects (b.next (reached b o us) x) else rejected_from b (b.next (reached b o us) x) xs)) (h.ends us x)
+      ∙ ap₂ (λ (front : List Rec) (s : S). front ++ rejected_from b s xs) (h.rejects us x) (reached-next b o us x)
+      ∙ ap (λ (back : List Rec). b.rejects (b.opening o) x ++ back) (rejected_from-each (us ++ x ∷ []) xs)
 
   -- such a node is a Fold
   pub IsFoldNode-steps : IsFoldNode b o
@@ -64,7 +64,7 @@ module _ {S : Type 0} (b : Behaviour S) (o : S) (h : FoldSteps b o) where
     sends = h.sends;
     ends = h.ends;
     any_order = λ xs ys s. sent_from-last [] xs ∙ ap b.last (state_from-Same [] xs ys s) ∙ sym (sent_from-last [] ys);
-    refused_any_order = λ xs ys s. record {
-      by = λ w. ap (weigh w) (refused_from-each [] xs) ∙ (Same-flat_map (b.rejects (b.opening o)) s).by w ∙ sym (ap (weigh w) (refused_from-each [] ys));
+    rejected_any_order = λ xs ys s. record {
+      by = λ w. ap (weigh w) (rejected_from-each [] xs) ∙ (Same-flat_map (b.rejects (b.opening o)) s).by w ∙ sym (ap (weigh w) (rejected_from-each [] ys));
     };
   }

@@ -5,7 +5,7 @@ use Rattle.std.proofs.Common.{◌∙◌, sym, ap, ap₂, arith}
 use Rattle.ff_rec.specs.Lines.{Rec}
 use Rattle.ff_rec.specs.Fields.{field_at, having, lacking, contents}
 use Rattle.ff_rec.specs.Weights.{weigh, Same}
-use Rattle.ff_node.specs.Behaviour.{KeepsKind, sent_from, refused_from, state_from, node, refused}
+use Rattle.ff_node.specs.Behaviour.{KeepsKind, sent_from, rejected_from, state_from, node, node_rejected}
 use Rattle.ff_node.specs.Classes.{ClassLaw, IsKeyedNode, reached}
 use Rattle.ff_ops.specs.Entries.{Entry}
 use Rattle.ff_ops.specs.FoldOps.{above, below}
@@ -127,11 +127,11 @@ flat_map-rejects o p (x ∷ xs) same =
     (keyed_rejects-opening p x ∙ ap (λ (q : KeyedOp). keyed_rejects q x) same ∙ sym (keyed_rejects-opening o x))
     (flat_map-rejects o p xs same)
 
-refused_from-keyed : (o : KeyedOp) (xs : List Rec) → refused_from keyed_node o xs ≡ flat_map (keyed_rejects o) xs
-refused_from-keyed o [] = refl
-refused_from-keyed o (x ∷ xs) =
+rejected_from-keyed : (o : KeyedOp) (xs : List Rec) → rejected_from keyed_node o xs ≡ flat_map (keyed_rejects o) xs
+rejected_from-keyed o [] = refl
+rejected_from-keyed o (x ∷ xs) =
     ap (λ (rest : List Rec). keyed_rejects o x ++ rest)
-    (refused_from-keyed (keyed_next o x) xs ∙ flat_map-rejects o (keyed_next o x) xs (keyed_opening-next o x))
+    (rejected_from-keyed (keyed_next o x) xs ∙ flat_map-rejects o (keyed_next o x) xs (keyed_opening-next o x))
 
 -- the records of entries, part by part
 map-parts : {A B K : Type 0} (h : A → B) (g : K → List A) (ks : List K) → map h (flat_map g ks) ≡ flat_map (λ k. map h (g k)) ks
@@ -171,15 +171,15 @@ total-parts f g es xs =
     ∙ flat_map-same (λ k. map total_record (steps (0, 0) summed f (number_in g) summed-swap [] (having f k xs))) (λ k. node keyed_node (TotalBy f g es) (having f k xs)) (contents f xs) (λ k. sym (node-total f g es (having f k xs)))
 
 -- the rejects of all are those of the records of each content, and of those without one
-keyed-refused : (o : KeyedOp) (f : ℕ) (xs : List Rec)
-    → Same (refused keyed_node o xs) (flat_map (λ k. refused keyed_node o (having f k xs)) (contents f xs) ++ refused keyed_node o (lacking f xs))
-keyed-refused o f xs = record {
+keyed-node_rejected : (o : KeyedOp) (f : ℕ) (xs : List Rec)
+    → Same (node_rejected keyed_node o xs) (flat_map (λ k. node_rejected keyed_node o (having f k xs)) (contents f xs) ++ node_rejected keyed_node o (lacking f xs))
+keyed-node_rejected o f xs = record {
   by = λ w.
-      ap (weigh w) (refused_from-keyed (keyed_opening o) xs)
+      ap (weigh w) (rejected_from-keyed (keyed_opening o) xs)
       ∙ (Same-parts (keyed_rejects (keyed_opening o)) f xs).by w
       ∙ ap₂ (λ (front back : List Rec). weigh w (front ++ back))
-      (flat_map-same (λ k. flat_map (keyed_rejects (keyed_opening o)) (having f k xs)) (λ k. refused keyed_node o (having f k xs)) (contents f xs) (λ k. sym (refused_from-keyed (keyed_opening o) (having f k xs))))
-      (sym (refused_from-keyed (keyed_opening o) (lacking f xs)));
+      (flat_map-same (λ k. flat_map (keyed_rejects (keyed_opening o)) (having f k xs)) (λ k. node_rejected keyed_node o (having f k xs)) (contents f xs) (λ k. sym (rejected_from-keyed (keyed_opening o) (having f k xs))))
+      (sym (rejected_from-keyed (keyed_opening o) (lacking f xs)));
 }
 
 -- a fold by key from what it sends and rejects
@@ -193,8 +193,8 @@ IsKeyedNode-parts o f parts = record {
     swaps = λ ys. keyed-swap (reached keyed_node o ys);
   });
   parts = parts;
-  refused_parts = keyed-refused o f;
-  refused_nothing = refl;
+  rejected_parts = keyed-node_rejected o f;
+  rejected_nothing = refl;
 }
 
 -- the law of the class

@@ -2,7 +2,7 @@
 use Rattle.std.specs.Prelude.{ℕ, Bool, if◌then◌else◌, List, [], ◌∷◌, Option, Some, option_and_then, ℤ, neg_ℤ, ◌+ℤ◌, ◌-ℤ◌, ◌*ℤ◌}
 use Rattle.std.specs.Option.{option_map}
 use Rattle.ff_rec.specs.Lines.{Rec}
-use Rattle.ff_node.specs.Cmp.{compares}
+use Rattle.ff_rec.specs.Cmp.{compares}
 use Rattle.ff_ops.specs.Rows.{in_range, number_in, with_number}
 use Rattle.ff_ops.specs.NumberOps.{half, quotient, remainder}
 use Rattle.ff_ops.specs.declared.number_op.NumberOp.{NumberOp}

@@ -3,7 +3,7 @@ use Rattle.std.specs.Prelude.{ℕ, ◌/◌, Bool, false, if◌then◌else◌, Li
 use Rattle.std.specs.Option.{option_map}
 use Rattle.ff_rec.specs.Lines.{Rec}
 use Rattle.ff_node.specs.Behaviour.{Behaviour}
-use Rattle.ff_node.specs.Cmp.{compares}
+use Rattle.ff_rec.specs.Cmp.{compares}
 use Rattle.ff_node.specs.declared.class.Class.TheVariants.{Plain}
 use Rattle.ff_ops.specs.Rows.{in_range, number_in, with_number, sent_if, sends_of, rejects_of}
 use Rattle.ff_ops.specs.declared.number_op.NumberOp.{NumberOp}

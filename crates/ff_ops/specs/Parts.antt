@@ -5,7 +5,7 @@ use Rattle.std.proofs.Common.{◌∙◌, sym, ap, subst}
 use Rattle.ff_rec.specs.Lines.{Rec}
 use Rattle.ff_rec.specs.Weights.{Same}
 use Rattle.ff_rec.specs.Fields.{contents, having, lacking}
-use Rattle.ff_node.specs.Behaviour.{Behaviour, sent_from, refused_from, state_from, node, refused}
+use Rattle.ff_node.specs.Behaviour.{Behaviour, sent_from, rejected_from, state_from, node, node_rejected}
 use Rattle.ff_node.specs.Classes.{ClassLaw, IsPlainNode, IsFoldNode, IsKeyedNode, reached}
 use Rattle.ff_node.specs.declared.class.Class.{Class}
 use Rattle.ff_node.specs.declared.class.Class.TheVariants.{Plain, Ordered, Fold, Keyed}
@@ -39,20 +39,20 @@ module _ {S T : Type 0} (b : Behaviour S) (c : Behaviour T) (at : S → T) (h : 
       ∙ ap (λ last. b.sends s y ++ (if b.ends s y then last else sent_from c (at (b.next s y)) ys)) (h.last (b.next s y))
       ∙ ap (λ rest. b.sends s y ++ (if b.ends s y then b.last (b.next s y) else rest)) (sent_from-at (b.next s y) ys)
 
-  refused_from-at : (s : S) (ys : List Rec) → refused_from c (at s) ys ≡ refused_from b s ys
-  refused_from-at s [] = h.last_rejects s
-  refused_from-at s (y ∷ ys) =
-      ap (λ rejects. rejects ++ (if c.ends (at s) y then c.last_rejects (c.next (at s) y) else refused_from c (c.next (at s) y) ys)) (h.rejects s y)
-      ∙ ap (λ ends. b.rejects s y ++ (if ends then c.last_rejects (c.next (at s) y) else refused_from c (c.next (at s) y) ys)) (h.ends s y)
-      ∙ ap (λ t. b.rejects s y ++ (if b.ends s y then c.last_rejects t else refused_from c t ys)) (h.next s y)
-      ∙ ap (λ last. b.rejects s y ++ (if b.ends s y then last else refused_from c (at (b.next s y)) ys)) (h.last_rejects (b.next s y))
-      ∙ ap (λ rest. b.rejects s y ++ (if b.ends s y then b.last_rejects (b.next s y) else rest)) (refused_from-at (b.next s y) ys)
+  rejected_from-at : (s : S) (ys : List Rec) → rejected_from c (at s) ys ≡ rejected_from b s ys
+  rejected_from-at s [] = h.last_rejects s
+  rejected_from-at s (y ∷ ys) =
+      ap (λ rejects. rejects ++ (if c.ends (at s) y then c.last_rejects (c.next (at s) y) else rejected_from c (c.next (at s) y) ys)) (h.rejects s y)
+      ∙ ap (λ ends. b.rejects s y ++ (if ends then c.last_rejects (c.next (at s) y) else rejected_from c (c.next (at s) y) ys)) (h.ends s y)
+      ∙ ap (λ t. b.rejects s y ++ (if b.ends s y then c.last_rejects t else rejected_from c t ys)) (h.next s y)
+      ∙ ap (λ last. b.rejects s y ++ (if b.ends s y then last else rejected_from c (at (b.next s y)) ys)) (h.last_rejects (b.next s y))
+      ∙ ap (λ rest. b.rejects s y ++ (if b.ends s y then b.last_rejects (b.next s y) else rest)) (rejected_from-at (b.next s y) ys)
 
   pub node-at : (s : S) (ys : List Rec) → node c (at s) ys ≡ node b s ys
   node-at s ys = ap (λ t. sent_from c t ys) (h.opening s) ∙ sent_from-at (b.opening s) ys
 
-  pub refused-at : (s : S) (ys : List Rec) → refused c (at s) ys ≡ refused b s ys
-  refused-at s ys = ap (λ t. refused_from c t ys) (h.opening s) ∙ refused_from-at (b.opening s) ys
+  pub node_rejected-at : (s : S) (ys : List Rec) → node_rejected c (at s) ys ≡ node_rejected b s ys
+  node_rejected-at s ys = ap (λ t. rejected_from c t ys) (h.opening s) ∙ rejected_from-at (b.opening s) ys
 
   -- the laws of the classes go along
   plain-at : (s : S) → IsPlainNode b s → IsPlainNode c (at s)
@@ -69,19 +69,19 @@ module _ {S T : Type 0} (b : Behaviour S) (c : Behaviour T) (at : S → T) (h : 
     sends = λ ys x. ap (λ t. c.sends t x) (reached-at s ys) ∙ h.sends (reached b s ys) x ∙ p.sends ys x;
     ends = λ ys x. ap (λ t. c.ends t x) (reached-at s ys) ∙ h.ends (reached b s ys) x ∙ p.ends ys x;
     any_order = λ xs ys same. node-at s xs ∙ p.any_order xs ys same ∙ sym (node-at s ys);
-    refused_any_order = λ xs ys same. subst (λ zs. Same zs (refused c (at s) ys)) (sym (refused-at s xs))
-        (subst (λ zs. Same (refused b s xs) zs) (sym (refused-at s ys)) (p.refused_any_order xs ys same));
+    rejected_any_order = λ xs ys same. subst (λ zs. Same zs (node_rejected c (at s) ys)) (sym (node_rejected-at s xs))
+        (subst (λ zs. Same (node_rejected b s xs) zs) (sym (node_rejected-at s ys)) (p.rejected_any_order xs ys same));
   }
 
   keyed-at : (f : ℕ) (s : S) → IsKeyedNode b f s → IsKeyedNode c f (at s)
   keyed-at f s p = record {
     fold = fold-at s p.fold;
     parts = λ xs. node-at s xs ∙ p.parts xs ∙ sym (flat_map-same (λ k. node c (at s) (having f k xs)) (λ k. node b s (having f k xs)) (λ k. node-at s (having f k xs)) (contents f xs));
-    refused_parts = λ xs. subst (λ zs. Same zs (flat_map (λ k. refused c (at s) (having f k xs)) (contents f xs) ++ refused c (at s) (lacking f xs))) (sym (refused-at s xs))
-        (subst (λ zs. Same (refused b s xs) (zs ++ refused c (at s) (lacking f xs)))
-        (sym (flat_map-same (λ k. refused c (at s) (having f k xs)) (λ k. refused b s (having f k xs)) (λ k. refused-at s (having f k xs)) (contents f xs)))
-        (subst (λ zs. Same (refused b s xs) (flat_map (λ k. refused b s (having f k xs)) (contents f xs) ++ zs)) (sym (refused-at s (lacking f xs))) (p.refused_parts xs)));
-    refused_nothing = refused-at s [] ∙ p.refused_nothing;
+    rejected_parts = λ xs. subst (λ zs. Same zs (flat_map (λ k. node_rejected c (at s) (having f k xs)) (contents f xs) ++ node_rejected c (at s) (lacking f xs))) (sym (node_rejected-at s xs))
+        (subst (λ zs. Same (node_rejected b s xs) (zs ++ node_rejected c (at s) (lacking f xs)))
+        (sym (flat_map-same (λ k. node_rejected c (at s) (having f k xs)) (λ k. node_rejected b s (having f k xs)) (λ k. node_rejected-at s (having f k xs)) (contents f xs)))
+        (subst (λ zs. Same (node_rejected b s xs) (flat_map (λ k. node_rejected b s (having f k xs)) (contents f xs) ++ zs)) (sym (node_rejected-at s (lacking f xs))) (p.rejected_parts xs)));
+    rejected_nothing = node_rejected-at s [] ∙ p.rejected_nothing;
   }
     where
       flat_map-same : (f g : List ℕ → List Rec) → ((k : List ℕ) → f k ≡ g k) → (ks : List (List ℕ)) → flat_map f ks ≡ flat_map g ks

@@ -1,17 +1,13 @@
 -- Words that the rows of the operations share.
-use Rattle.std.specs.Prelude.{ℕ, ◌-◌, ◌^◌, nat_lt, Bool, if◌then◌else◌, List, [], ◌∷◌, slice_set, Option, None, Some, option_and_then, ℤ, pos, negsuc}
-use Rattle.ff_rec.specs.Fields.{field_at}
+use Rattle.std.specs.Prelude.{ℕ, ◌-◌, ◌^◌, nat_lt, Bool, if◌then◌else◌, List, [], ◌∷◌, slice_set, Option, None, Some, ℤ, pos, negsuc}
+pub use Rattle.ff_rec.specs.Fields.{number_in}
 use Rattle.ff_rec.specs.Lines.{Rec}
-use Rattle.ff_rec.specs.Number.{number, printed}
+use Rattle.ff_rec.specs.Number.{printed}
 
 -- a number from -2^63 to 2^63 - 1; `negsuc n` is -(n + 1)
 abbrev pub in_range : ℤ → Option ℤ
 in_range (pos n) = if nat_lt n (2 ^ 63) then Some (pos n) else None
 in_range (negsuc n) = if nat_lt n (2 ^ 63) then Some (negsuc n) else None
-
--- the number in field `f`
-abbrev pub number_in : ℕ → Rec → Option ℤ
-number_in f r = option_and_then number (field_at f r)
 
 -- the record with other bytes in field `f`
 abbrev pub with_field : ℕ → List ℕ → Rec → Rec

@@ -1,16 +1,21 @@
 -- The fields of a record by their numbers, and lists of records by what a field holds.
-use Rattle.std.specs.Prelude.{ℕ, zero, suc, Bool, false, nat_eq, is_none, List, [], ◌∷◌, Option, None, Some, slice_get}
+use Rattle.std.specs.Prelude.{ℕ, zero, suc, Bool, false, nat_eq, is_none, List, [], ◌∷◌, Option, None, Some, slice_get, option_and_then, ℤ}
 use Rattle.std.specs.List.{filter}
 use Rattle.std.specs.Ordering.{nat_cmp}
 use Rattle.std.specs.Cmp.Lexicographic.{slice_cmp, pointwise}
 use Rattle.std.specs.declared.cmp.Ordering.{Ordering}
 use Rattle.std.specs.declared.cmp.Ordering.TheVariants.{Less, Equal, Greater}
 use Rattle.ff_rec.specs.Lines.{Rec}
+use Rattle.ff_rec.specs.Number.{number}
 
 -- field `k`, counted from 1
 abbrev pub field_at : ℕ → Rec → Option (List ℕ)
 field_at zero r = None
 field_at (suc k) r = slice_get r k
+
+-- the number in field `k`, where the field is there and is a number
+abbrev pub number_in : ℕ → Rec → Option ℤ
+number_in k r = option_and_then number (field_at k r)
 
 -- whether two fields hold the same bytes
 abbrev pub same_bytes : List ℕ → List ℕ → Bool

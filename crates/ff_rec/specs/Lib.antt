@@ -3,6 +3,9 @@ pub mod Lines
 pub mod Number
 pub mod Fields
 pub mod Pieces
+pub mod Counts
+pub mod Cmp
+pub mod Records
 pub mod Field
 pub mod Times
 pub mod Contents

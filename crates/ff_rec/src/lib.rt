@@ -2,6 +2,7 @@
 #![tactic(auto)]
 
 mod block;
+mod cmp;
 mod fault;
 mod field;
 mod laws;
@@ -10,8 +11,10 @@ mod msg;
 mod number;
 mod pieces;
 mod record;
+mod records;
 mod tabs;
 
+pub use cmp::Cmp;
 pub use fault::{CutFault, FeedFault, FieldFault, Kept, LineFault, NoMemory, PushFault};
 pub use field::Field;
 pub use laws::{
@@ -23,3 +26,4 @@ pub use msg::Msg;
 pub use number::{print_number, read_number};
 pub use pieces::split;
 pub use record::{MOST_FIELDS, Record, print_record};
+pub use records::{Records, copies};

@@ -1,8 +1,8 @@
 // A record: one block of bytes that holds its fields joined by tabs.
-ghost use Rattle.std.specs.Prelude.{◌≡◌, ◌↔◌, ◌-◌, ◌<◌, ◌≤◌, [], ◌∷◌, ◌++◌, length, slice_set, Some, None, IfOk, IfSome, OnOk, OnErr, IsErrOf, MatchOption};
+ghost use Rattle.std.specs.Prelude.{◌≡◌, ◌↔◌, ◌-◌, ◌<◌, ◌≤◌, [], ◌∷◌, ◌++◌, length, slice_set, Some, None, IfOk, IfSome, OnSome, OnOk, OnErr, IsErrOf, MatchOption};
 ghost use Rattle.ff_rec.specs.declared.fault.PushFault.TheVariants.{Full};
 ghost use Rattle.ff_rec.specs.declared.fault.CutFault.TheVariants.{TooManyFields};
-ghost use Rattle.ff_rec.specs.Fields.{field_at};
+ghost use Rattle.ff_rec.specs.Fields.{field_at, number_in};
 ghost use Rattle.ff_rec.specs.Lines.{IsPlain, IsRec, cut, tabs, joined, line_of};
 ghost use Rattle.ff_rec.specs.Number.{printed};
 ghost use Rattle.ff_rec.specs.Pieces.{Lacks};
@@ -13,7 +13,7 @@ mod tests;
 
 use crate::block::{append_line, place, push_field, put};
 use crate::tabs::count_tabs;
-use crate::{CutFault, Field, Kept, NoMemory, PushFault};
+use crate::{CutFault, Field, Kept, NoMemory, PushFault, read_number};
 use itoa::Buffer;
 use std::alloc::Global;
 use std::marker::Model;
@@ -98,6 +98,15 @@ impl Record {
         let block = self.block.as_slice();
         let (start, end) = place(block, self.count, k - 1);
         Some(&block[start..end])
+    }
+
+    /// The number in field `k`, counted from 1, where the field is there and is a number.
+    pub fn number(&self, k: usize) -> Option<i64>
+        ensures number { result ≡ number_in k self.now }
+        ensures low { OnSome result (1 ≤ k) }
+        ensures high { OnSome result (k ≤ length self.now) }
+    {
+        read_number(self.field(k)?)
     }
 
     /// Where its memory comes from.

@@ -5,7 +5,7 @@ use Rattle.std.specs.Io.KnownBytes.{Consumes}
 use Rattle.ff_io.specs.Bytes.{AppendsPrefix}
 use Rattle.ff_rec.specs.Lines.{Rec, text}
 use Rattle.ff_rec.proofs.WeightLaws.{Same-≡, Same-trans, Same-sym, Same-length}
-use Rattle.ff_node.specs.Behaviour.{Behaviour, KeepsKind, node, refused, line, line_refused, sent_from, refused_from}
+use Rattle.ff_node.specs.Behaviour.{Behaviour, KeepsKind, node, node_rejected, pipeline, pipeline_rejected, sent_from, rejected_from}
 use Rattle.ff_node.specs.Comb.{running, nodes_of, comb_node, CombIsLine}
 use Rattle.ff_node.specs.Sends.{counted}
 use Rattle.ff_net.specs.Forms.{has_wrap}
@@ -25,16 +25,16 @@ use Rattle.ff_single.proofs.Answering.{Answers-mean, HasBegun-cut, AreKept-kept_
 
 module _ {N : Type 0} (b : Behaviour N) (kind : KeepsKind b) where
   -- copies of nodes in their opening states do what the nodes do
-  line-opened : (os : List N) (xs : List Rec) → line b (map b.opening os) xs ≡ line b os xs
-  line-opened [] xs = refl
-  line-opened (o ∷ os) xs =
-      line-opened os (node b (b.opening o) xs) ∙ ap (λ (s : N). line b os (sent_from b s xs)) (kind.opening_of_opening o)
+  pipeline-opened : (os : List N) (xs : List Rec) → pipeline b (map b.opening os) xs ≡ pipeline b os xs
+  pipeline-opened [] xs = refl
+  pipeline-opened (o ∷ os) xs =
+      pipeline-opened os (node b (b.opening o) xs) ∙ ap (λ (s : N). pipeline b os (sent_from b s xs)) (kind.opening_of_opening o)
 
-  line_refused-opened : (os : List N) (xs : List Rec) → line_refused b (map b.opening os) xs ≡ line_refused b os xs
-  line_refused-opened [] xs = refl
-  line_refused-opened (o ∷ os) xs =
-      ap (λ (l : List Rec). refused b (b.opening o) xs ++ l) (line_refused-opened os (node b (b.opening o) xs))
-      ∙ ap (λ (s : N). refused_from b s xs ++ line_refused b os (sent_from b s xs)) (kind.opening_of_opening o)
+  pipeline_rejected-opened : (os : List N) (xs : List Rec) → pipeline_rejected b (map b.opening os) xs ≡ pipeline_rejected b os xs
+  pipeline_rejected-opened [] xs = refl
+  pipeline_rejected-opened (o ∷ os) xs =
+      ap (λ (l : List Rec). node_rejected b (b.opening o) xs ++ l) (pipeline_rejected-opened os (node b (b.opening o) xs))
+      ∙ ap (λ (s : N). rejected_from b s xs ++ pipeline_rejected b os (sent_from b s xs)) (kind.opening_of_opening o)
 
   -- the last of one node is the only one
   pub only-last : (front items : List N) (o : N) → items ≡ front ++ o ∷ [] → length items ≡ 1 → items ≡ o ∷ []
@@ -46,8 +46,8 @@ module _ {N : Type 0} (b : Behaviour N) (kind : KeepsKind b) where
   IsNodeOf-one t items o no_wrap lined copied one = record {
     no_wrap = no_wrap;
     fine = lined.fine;
-    sends = λ m xs. ap (λ (os : List N). line b os xs) (sym one ∙ copied) ∙ line-opened (nodes_in t) xs ∙ sym (lined.mean m xs);
-    rejects = λ m xs. Same-≡ _ _ (lined.lost m xs ∙ sym (line_refused-opened (nodes_in t) xs) ∙ ap (λ (os : List N). line_refused b os xs) (sym copied ∙ one) ∙ append-nil (refused b o xs));
+    sends = λ m xs. ap (λ (os : List N). pipeline b os xs) (sym one ∙ copied) ∙ pipeline-opened (nodes_in t) xs ∙ sym (lined.mean m xs);
+    rejects = λ m xs. Same-≡ _ _ (lined.rejected m xs ∙ sym (pipeline_rejected-opened (nodes_in t) xs) ∙ ap (λ (os : List N). pipeline_rejected b os xs) (sym copied ∙ one) ∙ append-nil (node_rejected b o xs));
   }
 
   -- the nodes of a comb
@@ -60,9 +60,9 @@ module _ {N : Type 0} (b : Behaviour N) (kind : KeepsKind b) where
   IsNodeOf-comb t items no_wrap lined combed copied = record {
     no_wrap = no_wrap;
     fine = lined.fine;
-    sends = λ m xs. (combed (running items) xs).0 ∙ ap (λ (os : List N). line b os xs) (nodes_of-running items ∙ copied) ∙ line-opened (nodes_in t) xs ∙ sym (lined.mean m xs);
+    sends = λ m xs. (combed (running items) xs).0 ∙ ap (λ (os : List N). pipeline b os xs) (nodes_of-running items ∙ copied) ∙ pipeline-opened (nodes_in t) xs ∙ sym (lined.mean m xs);
     rejects = λ m xs. Same-trans
-        (Same-≡ _ _ (lined.lost m xs ∙ sym (line_refused-opened (nodes_in t) xs) ∙ ap (λ (os : List N). line_refused b os xs) (sym copied ∙ sym (nodes_of-running items))))
+        (Same-≡ _ _ (lined.rejected m xs ∙ sym (pipeline_rejected-opened (nodes_in t) xs) ∙ ap (λ (os : List N). pipeline_rejected b os xs) (sym copied ∙ sym (nodes_of-running items))))
         (Same-sym (combed (running items) xs).1);
   }
 
@@ -83,7 +83,7 @@ module _ {N S : Type 0} (does : Behaviour N) (t : Tree N) (b : Behaviour S) (o :
         writes = told.output;
         reports = record {
           rejected = told.rejected ∙ ap counted (sym (Same-length (stands.rejects limit xs)));
-          refused = AreKept-kept_of keep _ (refused b o xs) report.refused (stands.rejects limit xs) told.refused;
+          kept = AreKept-kept_of keep _ (node_rejected b o xs) report.kept (stands.rejects limit xs) told.kept;
         };
         cause = cause;
       }

@@ -72,20 +72,20 @@ IsCutShort-read j l m ended f g t u stop xs ys number kept read meant some count
 
 -- all of it was written
 HasRun-read : {N : Type 0} (j : Job N) (l m : Option (List ℕ)) (ended : Bool) (f g : ℕ) (t u : Option (List ℕ)) (stop : Stop) (xs ys : List Rec) (report : Report) (Cause : List ℕ → Type 0)
-    (read : HasRead j.version l m ended stop xs) → IsMeant j.does j.tasks j.keep j.net xs ys report.rejected report.refused → Appends t u (text ys) → Cause read.got
+    (read : HasRead j.version l m ended stop xs) → IsMeant j.does j.tasks j.keep j.net xs ys report.rejected report.kept → Appends t u (text ys) → Cause read.got
     → HasRun j (streams l m ended f g t u) report Cause
 HasRun-read j l m ended f g t u stop xs ys report Cause read meant written cause = record {
   got = read.got;
   reads = read.reads;
   sent = ys;
-  answers = Answers-read j l m ended stop xs ys report.rejected report.refused read meant f g t u;
+  answers = Answers-read j l m ended stop xs ys report.rejected report.kept read meant f g t u;
   writes = written;
-  reports = subst (λ (l : List Rec). IsReported j l report) read.records (record { rejected = meant.rejected; refused = meant.kept });
+  reports = subst (λ (l : List Rec). IsReported j l report) read.records (record { rejected = meant.rejected; kept = meant.kept });
   cause = cause;
 }
 
 pub Ran-read : {N : Type 0} (j : Job N) (l m : Option (List ℕ)) (ended : Bool) (f g : ℕ) (t u : Option (List ℕ)) (stop : Stop) (xs ys : List Rec) (report : Report)
-    → HasRead j.version l m ended stop xs → IsMeant j.does j.tasks j.keep j.net xs ys report.rejected report.refused → Appends t u (text ys)
+    → HasRead j.version l m ended stop xs → IsMeant j.does j.tasks j.keep j.net xs ys report.rejected report.kept → Appends t u (text ys)
     → Ran j (streams l m ended f g t u) (answer_of stop report)
 Ran-read j l m ended f g t u End xs ys report read meant written = HasRun-read j l m ended f g t u End xs ys report _ read meant written read.stops
 Ran-read j l m ended f g t u Read xs ys report read meant written = HasRun-read j l m ended f g t u Read xs ys report _ read meant written read.stops

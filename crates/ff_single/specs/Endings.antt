@@ -6,7 +6,7 @@ use Rattle.ff_io.specs.Faults.{more}
 use Rattle.ff_rec.specs.Lines.{Rec, text}
 use Rattle.ff_node.specs.Behaviour.{Behaviour}
 use Rattle.ff_net.specs.Forms.{has_wrap}
-use Rattle.ff_net.specs.Meaning.{Answers, Begins, Fine, lost, lost_count}
+use Rattle.ff_net.specs.Meaning.{Answers, Begins, Fine, mean_rejected, mean_rejected_count}
 use Rattle.ff_net.specs.Tree.{Tree}
 use Rattle.ff_net.specs.Versions.{limit_by, seen_by}
 use Rattle.ff_net.specs.declared.net.Version.{Version}
@@ -33,8 +33,8 @@ records_of j s got = seen_by j.version got s.ended
 
 -- the report tells what the nodes lose for these records
 pub record IsReported {N : Type 0} (j : Job N) (xs : List Rec) (report : Report) : Type 0 where
-  pub rejected : report.rejected ≡ lost_count j.does j.tasks j.net xs
-  pub refused : AreKept j.keep (lost j.does j.tasks j.net xs) report.refused
+  pub rejected : report.rejected ≡ mean_rejected_count j.does j.tasks j.net xs
+  pub kept : AreKept j.keep (mean_rejected j.does j.tasks j.net xs) report.kept
 
 -- the network ran over the records of what was read, and the text of an answer was taken
 pub record HasRun {N : Type 0} (j : Job N) (s : Streams) (report : Report) (Cause : List ℕ → Type 0) : Type 0 where

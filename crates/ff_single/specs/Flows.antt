@@ -2,9 +2,9 @@
 use Rattle.std.specs.Prelude.{◌≡◌, ℕ, false, List, Result, Ok, Err}
 use Rattle.ff_rec.specs.Lines.{Rec}
 use Rattle.ff_rec.specs.Weights.{Same}
-use Rattle.ff_node.specs.Behaviour.{Behaviour, node, refused}
+use Rattle.ff_node.specs.Behaviour.{Behaviour, node, node_rejected}
 use Rattle.ff_net.specs.Forms.{has_wrap}
-use Rattle.ff_net.specs.Meaning.{mean, Fine, lost}
+use Rattle.ff_net.specs.Meaning.{mean, Fine, mean_rejected}
 use Rattle.ff_net.specs.Tree.{Tree}
 use Rattle.ff_stream.specs.declared.report.Report.{Report}
 use Rattle.ff_stream.specs.declared.report.StreamFault.{StreamFault}
@@ -17,7 +17,7 @@ pub record IsNodeOf {N S : Type 0} (does : Behaviour N) (net : Tree N) (b : Beha
   pub no_wrap : has_wrap net ≡ false
   pub fine : (m : ℕ) (xs : List Rec) → Fine does m net xs
   pub sends : (m : ℕ) (xs : List Rec) → node b o xs ≡ mean does m net xs
-  pub rejects : (m : ℕ) (xs : List Rec) → Same (lost does m net xs) (refused b o xs)
+  pub rejects : (m : ℕ) (xs : List Rec) → Same (mean_rejected does m net xs) (node_rejected b o xs)
 
 -- how a run of a network ends whose stream ends so
 abbrev pub ending_of : Result Report StreamFault → Result Report RunFault

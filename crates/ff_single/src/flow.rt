@@ -10,7 +10,7 @@ ghost use Rattle.ff_single.specs.Streams.{streams};
 use crate::fault::RunFault;
 use crate::limits::line_limit;
 use ff_io::{Sink, Source};
-use ff_mean::laws::networks_without_feedback_are_lines;
+use ff_mean::laws::networks_without_feedback_are_pipelines;
 use ff_net::Checked;
 use ff_node::laws::comb_is_composition;
 use ff_node::{Comb, Node};
@@ -18,7 +18,7 @@ use ff_stream::{Report, StreamFault, run_stream};
 use std::alloc::Global;
 
 /// Runs the nodes of a network, each fed with what the one before it sends.
-pub(crate) fn run_line<N: Node, I: Source, O: Sink>(
+pub(crate) fn run_pipeline<N: Node, I: Source, O: Sink>(
     alloc: Global,
     checked: &Checked<N>,
     mut nodes: Vec<N>,
@@ -35,7 +35,7 @@ pub(crate) fn run_line<N: Node, I: Source, O: Sink>(
     ensures input_faults { CountsInput (I.faults source.old) (I.faults source.new) result }
     ensures output_faults { O.faults sink.new ≡ output_count (O.faults sink.old) result }
 {
-    networks_without_feedback_are_lines(&nodes[0]);
+    networks_without_feedback_are_pipelines(&nodes[0]);
     comb_is_composition(&nodes[0]);
     match nodes.len() {
         // A comb round one node would move each record through a queue for nothing.

@@ -5,7 +5,7 @@ ghost use Rattle.ff_single.specs.Endings.{job, Ran, CountsInput, output_count};
 ghost use Rattle.ff_single.specs.Streams.{streams};
 
 use crate::fault::RunFault;
-use crate::flow::run_line;
+use crate::flow::run_pipeline;
 use crate::read::read_all;
 use crate::write::write_records;
 use ff_io::{Sink, Source};
@@ -36,10 +36,10 @@ pub fn run_whole<N: Node, I: Source, O: Sink>(
         Outcome::Done {
             sent,
             rejected,
-            refused,
+            kept,
         } => {
             write_records(alloc, sent, sink)?;
-            input.stop.answer(Report { rejected, refused })
+            input.stop.answer(Report { rejected, kept })
         }
     }
 }
@@ -65,7 +65,7 @@ pub fn run_flowing<N: Node, I: Source, O: Sink>(
     }
     let nodes = nodes_of(alloc, checked.net())?;
     match nodes.len() {
-        1..=64 => run_line(alloc, checked, nodes, keep, source, sink),
+        1..=64 => run_pipeline(alloc, checked, nodes, keep, source, sink),
         _ => run_whole(alloc, checked, limit, keep, source, sink),
     }
 }

@@ -70,7 +70,7 @@ fn kind_of(answer: &Result<Report, RunFault>) -> Kind {
 fn rejects(answer: Result<Report, RunFault>) -> (u64, usize) {
     match answer {
         Ok(report) | Err(RunFault::Read(report)) | Err(RunFault::Line(_, report)) => {
-            (report.rejected, report.refused.len())
+            (report.rejected, report.kept.len())
         }
         _ => (0, 0),
     }

@@ -2,7 +2,7 @@
 ghost use Rattle.std.specs.Prelude.{◌≡◌, [], OnOk};
 ghost use Rattle.std.specs.Io.KnownBytes.{Appends};
 ghost use Rattle.ff_io.specs.Bytes.{AppendsPrefix};
-ghost use Rattle.ff_io.specs.Faults.{counted};
+ghost use Rattle.ff_io.specs.Faults.{count_after};
 ghost use Rattle.ff_rec.specs.Lines.{text};
 ghost use Rattle.ff_single.specs.Writes.{sink_count};
 
@@ -40,7 +40,7 @@ fn flush<O: Sink>(held: &mut Vec<u8>, sink: &mut O) -> Result<(), Failed>
     ensures all { OnOk result (Appends (O.taken sink.old) (O.taken sink.new) held.old.items) }
     ensures prefix { AppendsPrefix (O.taken sink.old) (O.taken sink.new) held.old.items }
     ensures empty { OnOk result (held.new.items ≡ []) }
-    ensures counts { O.faults sink.new ≡ counted (O.faults sink.old) result }
+    ensures counts { O.faults sink.new ≡ count_after (O.faults sink.old) result }
 {
     write_all(sink, held)?;
     held.clear();

@@ -3,7 +3,7 @@ use Rattle.std.proofs.Common.{◌≡◌, ℕ, suc, ◌+◌, Bool, true, List, []
 use Rattle.std.specs.List.{AllByRecursion}
 use Rattle.ff_rec.specs.Lines.{Rec}
 use Rattle.ff_rec.specs.Streams.{at, carried, closed, unaborted, GoesOn}
-use Rattle.ff_node.specs.Behaviour.{Behaviour, node, sent_from, line}
+use Rattle.ff_node.specs.Behaviour.{Behaviour, node, sent_from, pipeline}
 use Rattle.ff_node.specs.Fits.{FitsStage}
 use Rattle.ff_node.specs.Runs.{Message, HasRun, AllGoOn, HasOuts, FitsWhole}
 use Rattle.ff_port.specs.declared.answers.End.TheVariants.{Eos}
@@ -71,7 +71,7 @@ module _ {N : Type 0} (b : Behaviour N) (keeps : Bool) where
 
     -- all of them
     pub GoesOn-chain : (us : List (StageState N)) (os : List N) (i n : ℕ) → RunNodes b keeps us os → i + length us ≡ n → ChainRuns b got put us i
-        → (xs : List Rec) → GoesOn (unaborted (put i)) (carried xs) → GoesOn (unaborted (put n)) (carried (line b os xs))
+        → (xs : List Rec) → GoesOn (unaborted (put i)) (carried xs) → GoesOn (unaborted (put n)) (carried (pipeline b os xs))
     GoesOn-chain [] [] i n made e runs xs g = subst (λ k. GoesOn (unaborted (put k)) (carried xs)) (omega (arith, e)) g
     GoesOn-chain [] (o ∷ os) i n made e runs xs g = absurd (cons≢nil (sym made))
     GoesOn-chain (u ∷ us) [] i n made e runs xs g = absurd (cons≢nil made)
@@ -91,7 +91,7 @@ module _ {N : Type 0} (b : Behaviour N) (keeps : Bool) where
 
     -- all of them
     pub closed-chain : (us : List (StageState N)) (os : List N) (i n : ℕ) → RunNodes b keeps us os → i + length us ≡ n → ChainRuns b got put us i
-        → AllByRecursion HasEnded us → (xs : List Rec) → put i ≡ closed (carried xs) → put n ≡ closed (carried (line b os xs))
+        → AllByRecursion HasEnded us → (xs : List Rec) → put i ≡ closed (carried xs) → put n ≡ closed (carried (pipeline b os xs))
     closed-chain [] [] i n made e runs ended xs c = subst (λ k. put k ≡ closed (carried xs)) (omega (arith, e)) c
     closed-chain [] (o ∷ os) i n made e runs ended xs c = absurd (cons≢nil (sym made))
     closed-chain (u ∷ us) [] i n made e runs ended xs c = absurd (cons≢nil made)

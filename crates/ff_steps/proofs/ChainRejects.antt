@@ -6,7 +6,7 @@ use Rattle.ff_rec.specs.Lines.{Rec}
 use Rattle.ff_rec.specs.Streams.{items, carried, closed}
 use Rattle.ff_rec.specs.Weights.{weigh, Same}
 use Rattle.ff_rec.proofs.WeightLaws.{weigh-append, Same-refl}
-use Rattle.ff_node.specs.Behaviour.{Behaviour, node, refused, refused_from, rejected, line_refused}
+use Rattle.ff_node.specs.Behaviour.{Behaviour, node, node_rejected, rejected_from, node_rejected_count, pipeline_rejected}
 use Rattle.ff_node.specs.Fits.{FitsRejects}
 use Rattle.ff_node.specs.Runs.{Message, HasRun}
 use Rattle.ff_node.specs.Sends.{counted}
@@ -26,39 +26,39 @@ min-sum : (a c d m : ℕ) → min c m ≡ min d m → min (min a m + c) m ≡ mi
 min-sum a c d m e = grind arith
 
 module _ {N : Type 0} (b : Behaviour N) (keeps : Bool) where
-  refused-same : (u : StageState N) (o : N) → opening_stage b u ≡ opened_stage b o keeps → (xs : List Rec) → refused b u.node xs ≡ refused b o xs
-  refused-same u o e xs = ap (λ s. refused_from b s.node xs) e
+  node_rejected-same : (u : StageState N) (o : N) → opening_stage b u ≡ opened_stage b o keeps → (xs : List Rec) → node_rejected b u.node xs ≡ node_rejected b o xs
+  node_rejected-same u o e xs = ap (λ s. rejected_from b s.node xs) e
 
   module _ (facts : StageFacts b) (got put : ℕ → List Message) (inside : (i : ℕ) → (back : List Message) × (put i ≡ got i ++ back)) where
     -- what one of them rejected
     rejects-unit : (u : StageState N) (o : N) (i : ℕ) → opening_stage b u ≡ opened_stage b o keeps → HasRun (StageStep b) (opening_stage b u) 1 1 u (got i ∷ []) (put (suc i) ∷ [])
         → HasEnded u → (xs : List Rec) → put i ≡ closed (carried xs)
-        → (taken : List Rec) × (u.rejects ≡ counted (rejected b o xs)) × (keeps ≡ true → taken ++ u.kept ≡ refused b o xs)
+        → (taken : List Rec) × (u.rejects ≡ counted (node_rejected_count b o xs)) × (keeps ≡ true → taken ++ u.kept ≡ node_rejected b o xs)
     rejects-unit u o i made run ended xs c = from (facts.rejects u (got i ∷ []) (put (suc i) ∷ []) run ended.0 ended.1)
       where
         all : items (got i) ≡ xs
         all = ap items (closed-unit b keeps facts got put inside u o i made run ended xs c).0 ∙ items-closed xs
 
-        same : refused b u.node (items (got i)) ≡ refused b o xs
-        same = ap (refused b u.node) all ∙ refused-same u o made xs
+        same : node_rejected b u.node (items (got i)) ≡ node_rejected b o xs
+        same = ap (node_rejected b u.node) all ∙ node_rejected-same u o made xs
 
         from : ((taken : List Rec) × FitsRejects b u.node u.keeps (items (got i)) u.rejects taken u.kept)
-            → (taken : List Rec) × (u.rejects ≡ counted (rejected b o xs)) × (keeps ≡ true → taken ++ u.kept ≡ refused b o xs)
+            → (taken : List Rec) × (u.rejects ≡ counted (node_rejected_count b o xs)) × (keeps ≡ true → taken ++ u.kept ≡ node_rejected b o xs)
         from r = (r.0, r.1.number_is ∙ ap (λ l. counted (length l)) same, λ k. r.1.kept (ap (λ s. s.keeps) made ∙ k) ∙ same)
 
     -- what all of them hold, behind what was taken out
     pub kept-chain : (us : List (StageState N)) (os : List N) (i : ℕ) → RunNodes b keeps us os → ChainRuns b got put us i
         → AllByRecursion HasEnded us → keeps ≡ true → (xs : List Rec) → put i ≡ closed (carried xs)
-        → (taken : List Rec) × Same (taken ++ flat_map (λ u. u.kept) us) (line_refused b os xs)
+        → (taken : List Rec) × Same (taken ++ flat_map (λ u. u.kept) us) (pipeline_rejected b os xs)
     kept-chain [] [] i made runs ended k xs c = ([], Same-refl [])
     kept-chain [] (o ∷ os) i made runs ended k xs c = absurd (cons≢nil (sym made))
     kept-chain (u ∷ us) [] i made runs ended k xs c = absurd (cons≢nil made)
     kept-chain (u ∷ us) (o ∷ os) i made runs ended k xs c = join (rejects-unit u o i (head-same made) runs.0 ended.0 xs c)
         (kept-chain us os (suc i) (tail-same made) runs.1 ended.1 k (node b o xs) (closed-unit b keeps facts got put inside u o i (head-same made) runs.0 ended.0 xs c).1)
       where
-        join : ((taken : List Rec) × (u.rejects ≡ counted (rejected b o xs)) × (keeps ≡ true → taken ++ u.kept ≡ refused b o xs))
-            → ((taken : List Rec) × Same (taken ++ flat_map (λ v. v.kept) us) (line_refused b os (node b o xs)))
-            → (taken : List Rec) × Same (taken ++ (u.kept ++ flat_map (λ v. v.kept) us)) (refused b o xs ++ line_refused b os (node b o xs))
+        join : ((taken : List Rec) × (u.rejects ≡ counted (node_rejected_count b o xs)) × (keeps ≡ true → taken ++ u.kept ≡ node_rejected b o xs))
+            → ((taken : List Rec) × Same (taken ++ flat_map (λ v. v.kept) us) (pipeline_rejected b os (node b o xs)))
+            → (taken : List Rec) × Same (taken ++ (u.kept ++ flat_map (λ v. v.kept) us)) (node_rejected b o xs ++ pipeline_rejected b os (node b o xs))
         join r rest = (
           r.0 ++ rest.0,
           record {
@@ -67,7 +67,7 @@ module _ {N : Type 0} (b : Behaviour N) (keeps : Bool) where
               weigh-append h (r.0 ++ rest.0) (u.kept ++ flat_map (λ v. v.kept) us),
               weigh-append h r.0 rest.0,
               weigh-append h u.kept (flat_map (λ v. v.kept) us),
-              weigh-append h (refused b o xs) (line_refused b os (node b o xs)),
+              weigh-append h (node_rejected b o xs) (pipeline_rejected b os (node b o xs)),
               weigh-append h rest.0 (flat_map (λ v. v.kept) us),
               rest.1.by h,
               weigh-append h r.0 u.kept,
@@ -79,22 +79,22 @@ module _ {N : Type 0} (b : Behaviour N) (keeps : Bool) where
     -- of one stage in their order
     pub kept-one : (u : StageState N) (o : N) (i : ℕ) → RunNodes b keeps (u ∷ []) (o ∷ []) → ChainRuns b got put (u ∷ []) i
         → AllByRecursion HasEnded (u ∷ []) → keeps ≡ true → (xs : List Rec) → put i ≡ closed (carried xs)
-        → (taken : List Rec) × (taken ++ flat_map (λ v. v.kept) (u ∷ []) ≡ line_refused b (o ∷ []) xs)
+        → (taken : List Rec) × (taken ++ flat_map (λ v. v.kept) (u ∷ []) ≡ pipeline_rejected b (o ∷ []) xs)
     kept-one u o i made runs ended k xs c = from (rejects-unit u o i (head-same made) runs.0 ended.0 xs c)
       where
-        from : ((taken : List Rec) × (u.rejects ≡ counted (rejected b o xs)) × (keeps ≡ true → taken ++ u.kept ≡ refused b o xs))
-            → (taken : List Rec) × (taken ++ (u.kept ++ []) ≡ refused b o xs ++ [])
-        from r = (r.0, ap (λ l. r.0 ++ l) (append-nil u.kept) ∙ r.2 k ∙ sym (append-nil (refused b o xs)))
+        from : ((taken : List Rec) × (u.rejects ≡ counted (node_rejected_count b o xs)) × (keeps ≡ true → taken ++ u.kept ≡ node_rejected b o xs))
+            → (taken : List Rec) × (taken ++ (u.kept ++ []) ≡ node_rejected b o xs ++ [])
+        from r = (r.0, ap (λ l. r.0 ++ l) (append-nil u.kept) ∙ r.2 k ∙ sym (append-nil (node_rejected b o xs)))
 
     -- how many all of them rejected
     pub rejects-chain : (us : List (StageState N)) (os : List N) (i : ℕ) → RunNodes b keeps us os → ChainRuns b got put us i
         → AllByRecursion HasEnded us → (xs : List Rec) → put i ≡ closed (carried xs)
-        → counted (rejects_of us) ≡ counted (length (line_refused b os xs))
+        → counted (rejects_of us) ≡ counted (length (pipeline_rejected b os xs))
     rejects-chain [] [] i made runs ended xs c = refl
     rejects-chain [] (o ∷ os) i made runs ended xs c = absurd (cons≢nil (sym made))
     rejects-chain (u ∷ us) [] i made runs ended xs c = absurd (cons≢nil made)
     rejects-chain (u ∷ us) (o ∷ os) i made runs ended xs c =
         ap (λ n. counted (n + rejects_of us)) (rejects-unit u o i (head-same made) runs.0 ended.0 xs c).1
-        ∙ min-sum (rejected b o xs) (rejects_of us) (length (line_refused b os (node b o xs))) (2 ^ 64 - 1)
+        ∙ min-sum (node_rejected_count b o xs) (rejects_of us) (length (pipeline_rejected b os (node b o xs))) (2 ^ 64 - 1)
         (rejects-chain us os (suc i) (tail-same made) runs.1 ended.1 (node b o xs) (closed-unit b keeps facts got put inside u o i (head-same made) runs.0 ended.0 xs c).1)
-        ∙ ap counted (sym (length-append (refused b o xs) (line_refused b os (node b o xs))))
+        ∙ ap counted (sym (length-append (node_rejected b o xs) (pipeline_rejected b os (node b o xs))))

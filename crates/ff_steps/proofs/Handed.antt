@@ -67,8 +67,8 @@ IsGood-hands b facts c (Some x) units' hands good = IsGood-handed b facts c x un
 
 -- as many units as before
 pub IsLine-hands : {N : Type 0} (us : List (StageState N)) (r : Option Rec) (us' : List (StageState N)) (nodes edges : ℕ) → Hands us r us' → IsLine nodes (length us) edges → IsLine nodes (length us') edges
-IsLine-hands us None us' nodes edges hands is_line = subst (λ xs. IsLine nodes (length xs) edges) (sym hands.1) is_line
-IsLine-hands us (Some x) us' nodes edges hands is_line = subst (λ n. IsLine nodes n edges) (sym (ap length hands.is ∙ length-set us hands.p hands.new)) is_line
+IsLine-hands us None us' nodes edges hands is_pipeline = subst (λ xs. IsLine nodes (length xs) edges) (sym hands.1) is_pipeline
+IsLine-hands us (Some x) us' nodes edges hands is_pipeline = subst (λ n. IsLine nodes n edges) (sym (ap length hands.is ∙ length-set us hands.p hands.new)) is_pipeline
 
 -- the unit at this place, in a list that is the old one
 pub HandsFirst-at : {N : Type 0} (us us' : List (StageState N)) (p : ℕ) (u v : StageState N) (x : Rec) → us' ≡ us → p < length us → NoneBelow us p

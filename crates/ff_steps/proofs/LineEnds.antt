@@ -8,7 +8,7 @@ use Rattle.ff_rec.specs.Lines.{Rec}
 use Rattle.ff_rec.specs.Streams.{IsOpenMsg, items, carried, closed}
 use Rattle.ff_rec.specs.Weights.{Same}
 use Rattle.ff_rec.specs.declared.msg.Msg.TheVariants.{Item, Mark, Pick, Eos as EosMsg, Abort as AbortMsg}
-use Rattle.ff_node.specs.Behaviour.{Behaviour, line, line_refused}
+use Rattle.ff_node.specs.Behaviour.{Behaviour, pipeline, pipeline_rejected}
 use Rattle.ff_node.specs.Runs.{Message}
 use Rattle.ff_node.specs.Sends.{counted}
 use Rattle.ff_port.specs.Queues.{put_of}
@@ -22,7 +22,7 @@ use Rattle.ff_steps.proofs.Chain.{ChainRuns, RunNodes, HasEnded, closed-chain}
 use Rattle.ff_steps.proofs.ChainRejects.{rejects_of, kept-chain, kept-one, rejects-chain}
 use Rattle.ff_steps.proofs.DrainerRuns.{IsEnded, items-drainer, IsEnded-drainer}
 use Rattle.ff_steps.proofs.FeederRuns.{at-feeder_done}
-use Rattle.ff_steps.proofs.LineRuns.{line_edge, line_edge-first, line_edge-last, line_got, line_put, length-units, ChainRuns-line, ran-feeder, ran-drainer}
+use Rattle.ff_steps.proofs.LineRuns.{line_edge, line_edge-first, line_edge-last, line_got, line_put, length-units, ChainRuns-pipeline, ran-feeder, ran-drainer}
 use Rattle.ff_unit.proofs.Messages.{items-append}
 use Rattle.ff_steps.proofs.MessageLists.{items-carried, ended-front}
 use Rattle.ff_steps.proofs.StageFacts.{StageFacts}
@@ -74,7 +74,7 @@ module _ {N : Type 0} (b : Behaviour N) where
         (p.0, or_parts c.feeder.refused c.drainer.refused p.1)
 
     units-ended : AllByRecursion HasEnded c.units
-    units-ended = ended-chain facts (line_got c) (line_put c) c.units 0 (ChainRuns-line b c rows sound) (ended-parts c.units c.feeder c.drainer ended).0 whole-parts.0
+    units-ended = ended-chain facts (line_got c) (line_put c) c.units 0 (ChainRuns-pipeline b c rows sound) (ended-parts c.units c.feeder c.drainer ended).0 whole-parts.0
 
     -- the first unit was given the whole input
     first-closed : line_put c 0 ≡ closed (carried c.input)
@@ -82,57 +82,57 @@ module _ {N : Type 0} (b : Behaviour N) where
         ∙ at-feeder_done b c.input c.feeder [] (put_of (edge c 0) ∷ []) (ran-feeder b c rows sound) (ended-parts c.units c.feeder c.drainer ended).1.0 whole-parts.1.0
 
     -- the drainer was given the whole answer
-    last-closed : put_of (edge c 1) ≡ closed (carried (line b c.nodes c.input))
+    last-closed : put_of (edge c 1) ≡ closed (carried (pipeline b c.nodes c.input))
     last-closed = ap (λ e. put_of (edge c e)) (sym (line_edge-last (length c.nodes)))
         ∙ closed-chain b c.keeps facts (line_got c) (line_put c) (λ i. ((edge c (line_edge (length c.nodes) i)).inside, refl)) c.units c.nodes 0 (length c.nodes) sound.made_of
-        (omega (arith, length-units b c rows sound)) (ChainRuns-line b c rows sound) units-ended c.input first-closed
+        (omega (arith, length-units b c rows sound)) (ChainRuns-pipeline b c rows sound) units-ended c.input first-closed
 
     -- and took all of it
-    items-last : items (edge c 1).got ≡ line b c.nodes c.input
+    items-last : items (edge c 1).got ≡ pipeline b c.nodes c.input
     items-last = from (IsEnded-drainer b c.drainer ((edge c 1).got ∷ []) [] (ran-drainer b c rows sound) (ended-parts c.units c.feeder c.drainer ended).1.1)
       where
-        from : IsEnded (edge c 1).got → items (edge c 1).got ≡ line b c.nodes c.input
+        from : IsEnded (edge c 1).got → items (edge c 1).got ≡ pipeline b c.nodes c.input
         from h =
-            let all : h.front ≡ carried (line b c.nodes c.input) =
-            ended-front h.front h.last (edge c 1).inside (line b c.nodes c.input) h.ends (ap (λ l. l ++ (edge c 1).inside) (sym h.is) ∙ last-closed) in
+            let all : h.front ≡ carried (pipeline b c.nodes c.input) =
+            ended-front h.front h.last (edge c 1).inside (pipeline b c.nodes c.input) h.ends (ap (λ l. l ++ (edge c 1).inside) (sym h.is) ∙ last-closed) in
             ap items h.is ∙ items-append h.front (h.last ∷ []) ∙ ap (λ l. items h.front ++ l) (items-end h.last h.ends) ∙ append-nil (items h.front)
-            ∙ ap items all ∙ items-carried (line b c.nodes c.input)
+            ∙ ap items all ∙ items-carried (pipeline b c.nodes c.input)
 
-    output-whole : c.drainer.output ≡ line b c.nodes c.input
+    output-whole : c.drainer.output ≡ pipeline b c.nodes c.input
     output-whole = from (items-drainer b c.drainer ((edge c 1).got ∷ []) [] (ran-drainer b c rows sound))
       where
-        from : ((lost : List Rec) × (items (edge c 1).got ≡ c.drainer.output ++ lost) × (c.drainer.refused ≡ false → lost ≡ [])) → c.drainer.output ≡ line b c.nodes c.input
+        from : ((lost : List Rec) × (items (edge c 1).got ≡ c.drainer.output ++ lost) × (c.drainer.refused ≡ false → lost ≡ [])) → c.drainer.output ≡ pipeline b c.nodes c.input
         from d = sym (append-nil c.drainer.output) ∙ ap (λ l. c.drainer.output ++ l) (sym (d.2 whole-parts.1.1)) ∙ sym d.1 ∙ items-last
 
-    held_rejects-whole : c.keeps ≡ true → (taken : List Rec) × Same (taken ++ held_rejects c) (line_refused b c.nodes c.input)
+    held_rejects-whole : c.keeps ≡ true → (taken : List Rec) × Same (taken ++ held_rejects c) (pipeline_rejected b c.nodes c.input)
     held_rejects-whole keeps = kept-chain b c.keeps facts (line_got c) (line_put c) (λ i. ((edge c (line_edge (length c.nodes) i)).inside, refl)) c.units c.nodes 0 sound.made_of
-        (ChainRuns-line b c rows sound) units-ended keeps c.input first-closed
+        (ChainRuns-pipeline b c rows sound) units-ended keeps c.input first-closed
 
-    rejects-whole : counted (rejects_of c.units) ≡ counted (length (line_refused b c.nodes c.input))
+    rejects-whole : counted (rejects_of c.units) ≡ counted (length (pipeline_rejected b c.nodes c.input))
     rejects-whole = rejects-chain b c.keeps facts (line_got c) (line_put c) (λ i. ((edge c (line_edge (length c.nodes) i)).inside, refl)) c.units c.nodes 0 sound.made_of
-        (ChainRuns-line b c rows sound) units-ended c.input first-closed
+        (ChainRuns-pipeline b c rows sound) units-ended c.input first-closed
 
   -- the answer
   pub output-ended : StageFacts b → (c : CoreState N) → 1 ≤ length c.nodes → c.rows ≡ line_rows (length c.nodes) → IsSound b c
-      → all_ended c ≡ true → is_short c ≡ false → c.drainer.output ≡ line b c.nodes c.input
+      → all_ended c ≡ true → is_short c ≡ false → c.drainer.output ≡ pipeline b c.nodes c.input
   output-ended facts c some rows sound ended whole = output-whole facts c some rows sound ended whole
 
   -- the rejects that are held, behind those that were taken out
   pub held_rejects-ended : StageFacts b → (c : CoreState N) → 1 ≤ length c.nodes → c.rows ≡ line_rows (length c.nodes) → IsSound b c
-      → all_ended c ≡ true → is_short c ≡ false → c.keeps ≡ true → (taken : List Rec) × Same (taken ++ held_rejects c) (line_refused b c.nodes c.input)
+      → all_ended c ≡ true → is_short c ≡ false → c.keeps ≡ true → (taken : List Rec) × Same (taken ++ held_rejects c) (pipeline_rejected b c.nodes c.input)
   held_rejects-ended facts c some rows sound ended whole keeps = held_rejects-whole facts c some rows sound ended whole keeps
 
   -- in their order where there is one node
   pub held_rejects-one : StageFacts b → (c : CoreState N) → length c.nodes ≡ 1 → c.rows ≡ line_rows (length c.nodes) → IsSound b c
-      → all_ended c ≡ true → is_short c ≡ false → c.keeps ≡ true → (taken : List Rec) × (taken ++ held_rejects c ≡ line_refused b c.nodes c.input)
+      → all_ended c ≡ true → is_short c ≡ false → c.keeps ≡ true → (taken : List Rec) × (taken ++ held_rejects c ≡ pipeline_rejected b c.nodes c.input)
   held_rejects-one facts c one rows sound ended whole keeps =
-      of c.units c.nodes one (length-units b c rows sound) sound.made_of (ChainRuns-line b c rows sound) (units-ended facts c some rows sound ended whole)
+      of c.units c.nodes one (length-units b c rows sound) sound.made_of (ChainRuns-pipeline b c rows sound) (units-ended facts c some rows sound ended whole)
     where
       some : 1 ≤ length c.nodes
       some = omega (arith, one)
 
       of : (us : List (StageState N)) (os : List N) → length os ≡ 1 → length us ≡ length os → RunNodes b c.keeps us os → ChainRuns b (line_got c) (line_put c) us 0 → AllByRecursion HasEnded us
-          → (taken : List Rec) × (taken ++ flat_map (λ u. u.kept) us ≡ line_refused b os c.input)
+          → (taken : List Rec) × (taken ++ flat_map (λ u. u.kept) us ≡ pipeline_rejected b os c.input)
       of [] os n m made runs done = absurd (omega (arith, n, m))
       of (u ∷ us) [] n m made runs done = absurd (omega (arith, n))
       of (u ∷ us) (o ∷ p ∷ os) n m made runs done = absurd (omega (arith, n))
@@ -142,6 +142,6 @@ module _ {N : Type 0} (b : Behaviour N) where
 
   -- their number, as far as a count of 64 bits tells
   pub rejects-ended : StageFacts b → (c : CoreState N) → 1 ≤ length c.nodes → c.rows ≡ line_rows (length c.nodes) → IsSound b c
-      → all_ended c ≡ true → is_short c ≡ false → counted (sum_by (λ u. u.rejects) c.units) ≡ counted (length (line_refused b c.nodes c.input))
+      → all_ended c ≡ true → is_short c ≡ false → counted (sum_by (λ u. u.rejects) c.units) ≡ counted (length (pipeline_rejected b c.nodes c.input))
   rejects-ended facts c some rows sound ended whole =
       ap counted (sym (is_sum_by rejects_of (λ u. u.rejects) refl (λ u us. refl) c.units)) ∙ rejects-whole facts c some rows sound ended whole

@@ -2,7 +2,7 @@
 use Rattle.std.proofs.Common.{◌≡◌, ℕ, ◌+◌, ◌≤◌, Bool, false, List, [], length, map, replicate, refl, ap, ◌∙◌}
 use Rattle.std.proofs.lemmas.List.{length-map, length-replicate}
 use Rattle.ff_rec.specs.Lines.{Rec}
-use Rattle.ff_node.specs.Behaviour.{Behaviour, KeepsKind, line}
+use Rattle.ff_node.specs.Behaviour.{Behaviour, KeepsKind, pipeline}
 use Rattle.ff_port.specs.Queues.{Queue, empty_queue}
 use Rattle.ff_unit.specs.Stage.{StageState, opened_stage}
 use Rattle.ff_steps.specs.Core.{opened_line}
@@ -15,7 +15,7 @@ module _ {N : Type 0} (b : Behaviour N) (kind : KeepsKind b) where
   pub IsGood-opened : (nodes : List N) (cap : ℕ) (keeps : Bool) (input : List Rec) → 1 ≤ length nodes → IsGood b (opened_line b nodes cap keeps input)
   IsGood-opened nodes cap keeps input some = record {
     sound = IsSound-opened b kind nodes cap keeps input some;
-    begins = record { rest = line b nodes input; is = refl };
+    begins = record { rest = pipeline b nodes input; is = refl };
   }
 
   -- the same of its parts

@@ -77,10 +77,10 @@ module _ {N : Type 0} (b : Behaviour N) (c0 c : CoreState N) (seen : c0 ≡ c) (
   -- a step leads to a good moment of a line
   pub Invariant-seen : StageFacts b → IsLine (length c.nodes) (length c.units) (length c.edges) → (p : ℕ) (c' : CoreState N) → p < length c.nodes + 2
       → CoreStep b p c0 c' → (IsLine (length c.nodes) (length c'.units) (length c'.edges)) × IsGood b c'
-  Invariant-seen facts is_line p c' low step = of (subst (λ x. CoreStep b p x c') seen step)
+  Invariant-seen facts is_pipeline p c' low step = of (subst (λ x. CoreStep b p x c') seen step)
     where
       of : CoreStep b p c c' → (IsLine (length c.nodes) (length c'.units) (length c'.edges)) × IsGood b c'
       of stepped = (
-        record { some = is_line.some; few = is_line.few; units_are = stepped.number ∙ is_line.units_are; edges_are = stepped.edges.number ∙ is_line.edges_are },
-        IsGood-step b facts p c c' (subst (λ n. p < n) (ap (λ n. n + 2) (sym (length-units b c rows sound)) ∙ sym (length-parties c)) low) is_line.some rows sound stepped,
+        record { some = is_pipeline.some; few = is_pipeline.few; units_are = stepped.number ∙ is_pipeline.units_are; edges_are = stepped.edges.number ∙ is_pipeline.edges_are },
+        IsGood-step b facts p c c' (subst (λ n. p < n) (ap (λ n. n + 2) (sym (length-units b c rows sound)) ∙ sym (length-parties c)) low) is_pipeline.some rows sound stepped,
       )

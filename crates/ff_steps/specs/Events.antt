@@ -1,7 +1,7 @@
 -- The events of a core, and what a schedule makes of it.
 use Rattle.std.specs.Prelude.{◌≡◌, ◌≢◌, ◌⊎◌, ◌≤◌, ◌<◌, ℕ, Bool, true, false, List, [], ◌∷◌, ◌++◌, length, slice_index, Option, None, Some}
 use Rattle.ff_rec.specs.Lines.{Rec}
-use Rattle.ff_node.specs.Behaviour.{Behaviour, line}
+use Rattle.ff_node.specs.Behaviour.{Behaviour, pipeline}
 use Rattle.ff_node.specs.Runs.{Message, Act, Took, Gave, Refused, Idle, Told, Handed, took, gave}
 use Rattle.ff_port.specs.Queues.{put_of, room_of}
 use Rattle.ff_port.specs.declared.answers.End.{End}
@@ -64,7 +64,7 @@ Event b p c c' = ((p < length (parties c)) × CoreStep b p c c') ⊎ ((length (p
 -- what the drainer kept is a beginning of what the line sends for the input
 pub record Begins {N : Type 0} (b : Behaviour N) (c : CoreState N) : Type 0 where
   pub rest : List Rec
-  pub is : line b c.nodes c.input ≡ c.drainer.output ++ rest
+  pub is : pipeline b c.nodes c.input ≡ c.drainer.output ++ rest
 
 -- a good moment: each party is reached by its own steps, and the output is a beginning of the answer
 pub record IsGood {N : Type 0} (b : Behaviour N) (c : CoreState N) : Type 0 where

@@ -3,7 +3,7 @@ ghost use Rattle.std.specs.Prelude.{◌≡◌, ◌≤◌, ◌++◌, ◌&&◌, tr
 ghost use Rattle.std.specs.List.{list_all};
 ghost use Rattle.ff_rec.specs.Lines.{Rec};
 ghost use Rattle.ff_rec.specs.Weights.{Same};
-ghost use Rattle.ff_node.specs.Behaviour.{line, line_refused};
+ghost use Rattle.ff_node.specs.Behaviour.{pipeline, pipeline_rejected};
 ghost use Rattle.ff_node.specs.Sends.{counted};
 ghost use Rattle.ff_unit.specs.Stage.{end_of};
 ghost use Rattle.ff_steps.specs.Rejects.{Hands};
@@ -90,13 +90,13 @@ impl<N: Node> Core<N> {
     pub(crate) fn all_ended(&self) -> bool
         ensures ended { result ≡ all_ended self.now }
         ensures good { IsGood N.does self.now }
-        ensures answers { result ≡ true → is_short self.now ≡ false → self.now.drainer.output ≡ line N.does self.now.nodes self.now.input }
+        ensures answers { result ≡ true → is_short self.now ≡ false → self.now.drainer.output ≡ pipeline N.does self.now.nodes self.now.input }
         ensures rejects { result ≡ true → is_short self.now ≡ false
-            → counted (sum_by (λ u. u.rejects) self.now.units) ≡ counted (length (line_refused N.does self.now.nodes self.now.input)) }
+            → counted (sum_by (λ u. u.rejects) self.now.units) ≡ counted (length (pipeline_rejected N.does self.now.nodes self.now.input)) }
         ensures held { result ≡ true → is_short self.now ≡ false → self.now.keeps ≡ true
-            → (taken : List Rec) × Same (taken ++ held_rejects self.now) (line_refused N.does self.now.nodes self.now.input) }
+            → (taken : List Rec) × Same (taken ++ held_rejects self.now) (pipeline_rejected N.does self.now.nodes self.now.input) }
         ensures held_of_one { result ≡ true → is_short self.now ≡ false → self.now.keeps ≡ true → length self.now.nodes ≡ 1
-            → (taken : List Rec) × (taken ++ held_rejects self.now ≡ line_refused N.does self.now.nodes self.now.input) }
+            → (taken : List Rec) × (taken ++ held_rejects self.now ≡ pipeline_rejected N.does self.now.nodes self.now.input) }
     {
         self.parties_done()
     }

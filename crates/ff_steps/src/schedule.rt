@@ -2,7 +2,7 @@
 ghost use Rattle.std.specs.Prelude.{◌≡◌, ◌++◌, true, false, List, length, sum_by};
 ghost use Rattle.ff_rec.specs.Lines.{Rec};
 ghost use Rattle.ff_rec.specs.Weights.{Same};
-ghost use Rattle.ff_node.specs.Behaviour.{line, line_refused};
+ghost use Rattle.ff_node.specs.Behaviour.{pipeline, pipeline_rejected};
 ghost use Rattle.ff_node.specs.Sends.{counted};
 ghost use Rattle.ff_steps.specs.Core.{is_short, all_ended, held_rejects};
 ghost use Rattle.ff_steps.specs.Events.{IsGood, Follows};
@@ -17,13 +17,13 @@ pub fn run_schedule<N: Node>(core: &mut Core<N>, schedule: &[u32]) -> bool
     ensures ended { result ≡ all_ended core.new }
 
     // Once all have ended, the output and the rejects are those of the line, if memory was never short.
-    ensures answers { result ≡ true → is_short core.new ≡ false → core.new.drainer.output ≡ line N.does core.new.nodes core.new.input }
+    ensures answers { result ≡ true → is_short core.new ≡ false → core.new.drainer.output ≡ pipeline N.does core.new.nodes core.new.input }
     ensures rejects { result ≡ true → is_short core.new ≡ false
-        → counted (sum_by (λ u. u.rejects) core.new.units) ≡ counted (length (line_refused N.does core.new.nodes core.new.input)) }
+        → counted (sum_by (λ u. u.rejects) core.new.units) ≡ counted (length (pipeline_rejected N.does core.new.nodes core.new.input)) }
     ensures held { result ≡ true → is_short core.new ≡ false → core.new.keeps ≡ true
-        → (taken : List Rec) × Same (taken ++ held_rejects core.new) (line_refused N.does core.new.nodes core.new.input) }
+        → (taken : List Rec) × Same (taken ++ held_rejects core.new) (pipeline_rejected N.does core.new.nodes core.new.input) }
     ensures held_of_one { result ≡ true → is_short core.new ≡ false → core.new.keeps ≡ true → length core.new.nodes ≡ 1
-        → (taken : List Rec) × (taken ++ held_rejects core.new ≡ line_refused N.does core.new.nodes core.new.input) }
+        → (taken : List Rec) × (taken ++ held_rejects core.new ≡ pipeline_rejected N.does core.new.nodes core.new.input) }
 {
     for p in schedule {
         core.step(*p as usize);

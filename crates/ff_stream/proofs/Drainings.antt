@@ -26,7 +26,7 @@ pub Ends-after : {S : Type 0} (b : Behaviour S) (x y : Running S) (xs ys : List 
 Ends-after b x y xs ys t u v report first second = record {
   output = subst (Appends t v) (sym (due-goes b x y xs ys t u first)) (Appends-trans t u v first.put (due b y ys) first.taken second.output);
   rejected = second.rejected ∙ ap (λ (s : Sent). s.rejects) (sym (told-goes b x y xs ys t u first));
-  refused = second.refused ∙ ap (λ (s : Sent). s.kept) (sym (told-goes b x y xs ys t u first));
+  kept = second.kept ∙ ap (λ (s : Sent). s.kept) (sym (told-goes b x y xs ys t u first));
 }
 
 pub IfOk-ends : {S : Type 0} (b : Behaviour S) (x y : Running S) (xs ys : List Rec) (t u v : Option (List ℕ)) (answer : Result Report Halt) → Goes b x xs y ys t u

@@ -11,7 +11,7 @@ use Rattle.ff_rec.specs.declared.fault.FeedFault.TheVariants.{Line as Passed}
 use Rattle.ff_rec.specs.Limits.{limit, seen, IsCut, ReadingLaw}
 use Rattle.ff_rec.specs.Lines.{Rec, text}
 use Rattle.ff_rec.specs.Reading.{Reading, opening, after, given}
-use Rattle.ff_node.specs.Behaviour.{Behaviour, node, refused}
+use Rattle.ff_node.specs.Behaviour.{Behaviour, node, node_rejected}
 use Rattle.ff_node.specs.Sends.{Sent, nothing_sent, count_more, kept_of}
 use Rattle.ff_node.proofs.SendsLaws.{count_more-zero}
 use Rattle.ff_stream.specs.Endings.{most_bytes, IsTold, Tells, HasRun}
@@ -42,7 +42,7 @@ due-opened b o keep x opened xs =
     ap (λ (s : Sent). x.text.items ++ text s.sends) (in_all-opened b o keep x opened xs) ∙ ap (λ (l : List ℕ). l ++ text (node b o xs)) opened.text
 
 told-opened : {S : Type 0} (b : Behaviour S) (o : S) (keep : Bool) (x : Running S) → IsOpened b o keep x → (xs : List Rec)
-    → told b x xs ≡ record { sends = []; rejects = count_more 0 (refused b o xs); keeps = keep; kept = kept_of keep (refused b o xs) }
+    → told b x xs ≡ record { sends = []; rejects = count_more 0 (node_rejected b o xs); keeps = keep; kept = kept_of keep (node_rejected b o xs) }
 told-opened b o keep x opened xs = ap (λ (s : Sent). record s { sends = [] }) (in_all-opened b o keep x opened xs)
 
 -- what it came to
@@ -50,8 +50,8 @@ IsTold-ends : {S : Type 0} (b : Behaviour S) (o : S) (keep : Bool) (x : Running 
     → IsTold b o keep xs t u report
 IsTold-ends b o keep x xs t u report opened ends = record {
   output = subst (Appends t u) (due-opened b o keep x opened xs) ends.output;
-  rejected = ends.rejected ∙ ap (λ (s : Sent). s.rejects) (told-opened b o keep x opened xs) ∙ count_more-zero (refused b o xs);
-  refused = ends.refused ∙ ap (λ (s : Sent). s.kept) (told-opened b o keep x opened xs);
+  rejected = ends.rejected ∙ ap (λ (s : Sent). s.rejects) (told-opened b o keep x opened xs) ∙ count_more-zero (node_rejected b o xs);
+  kept = ends.kept ∙ ap (λ (s : Sent). s.kept) (told-opened b o keep x opened xs);
 }
 
 -- the refusal of the reader is the limit that was passed

@@ -2,7 +2,7 @@
 use Rattle.std.proofs.Common.{◌≡◌, Bool, true, false, cond, List, ℕ, [], ◌∷◌, ◌++◌, sym, ap, ◌∙◌, append_assoc}
 use Rattle.std.proofs.lemmas.Grind.{flat_map-append}
 use Rattle.ff_rec.specs.Lines.{Rec, line_of, text}
-use Rattle.ff_node.specs.Behaviour.{Behaviour, sent_from, refused_from}
+use Rattle.ff_node.specs.Behaviour.{Behaviour, sent_from, rejected_from}
 use Rattle.ff_node.specs.Sends.{Sent, add}
 use Rattle.ff_node.proofs.SendsLaws.{add-add, add-nothing}
 use Rattle.ff_stream.specs.Running.{sent_after, in_all, due, told}
@@ -13,11 +13,11 @@ pub in_all-on : {S : Type 0} (b : Behaviour S) (s next : S) (out after : Sent) (
     → (zs : List Rec) → in_all b false s out (x ∷ zs) ≡ in_all b false next after zs
 in_all-on b s next out after x mark state added zs =
     let by_end : Bool → Sent = λ e. add out (b.sends s x ++ cond e (b.last (b.next s x)) (sent_from b (b.next s x) zs))
-    (b.rejects s x ++ cond e (b.last_rejects (b.next s x)) (refused_from b (b.next s x) zs)) in
+    (b.rejects s x ++ cond e (b.last_rejects (b.next s x)) (rejected_from b (b.next s x) zs)) in
     ap by_end (sym mark)
-    ∙ sym (add-add out (b.sends s x) (b.rejects s x) (sent_from b (b.next s x) zs) (refused_from b (b.next s x) zs))
-    ∙ ap (λ (o : Sent). add o (sent_from b (b.next s x) zs) (refused_from b (b.next s x) zs)) (sym added)
-    ∙ ap (λ t. add after (sent_from b t zs) (refused_from b t zs)) (sym state)
+    ∙ sym (add-add out (b.sends s x) (b.rejects s x) (sent_from b (b.next s x) zs) (rejected_from b (b.next s x) zs))
+    ∙ ap (λ (o : Sent). add o (sent_from b (b.next s x) zs) (rejected_from b (b.next s x) zs)) (sym added)
+    ∙ ap (λ t. add after (sent_from b t zs) (rejected_from b t zs)) (sym state)
 
 -- a record that ends it, and its last records
 pub in_all-end : {S : Type 0} (b : Behaviour S) (s next last : S) (out after all : Sent) (x : Rec) → true ≡ b.ends s x → next ≡ b.next s x
@@ -25,7 +25,7 @@ pub in_all-end : {S : Type 0} (b : Behaviour S) (s next last : S) (out after all
     → (zs : List Rec) → in_all b false s out (x ∷ zs) ≡ in_all b true last all zs
 in_all-end b s next last out after all x mark state added ending zs =
     let by_end : Bool → Sent = λ e. add out (b.sends s x ++ cond e (b.last (b.next s x)) (sent_from b (b.next s x) zs))
-    (b.rejects s x ++ cond e (b.last_rejects (b.next s x)) (refused_from b (b.next s x) zs)) in
+    (b.rejects s x ++ cond e (b.last_rejects (b.next s x)) (rejected_from b (b.next s x) zs)) in
     ap by_end (sym mark)
     ∙ sym (add-add out (b.sends s x) (b.rejects s x) (b.last (b.next s x)) (b.last_rejects (b.next s x)))
     ∙ ap (λ (o : Sent). add o (b.last (b.next s x)) (b.last_rejects (b.next s x))) (sym added)

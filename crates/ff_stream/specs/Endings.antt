@@ -6,7 +6,7 @@ use Rattle.ff_io.specs.Faults.{more}
 use Rattle.ff_rec.specs.declared.fault.LineFault.{LineFault}
 use Rattle.ff_rec.specs.Limits.{limit, seen}
 use Rattle.ff_rec.specs.Lines.{Rec, text}
-use Rattle.ff_node.specs.Behaviour.{Behaviour, node, refused, rejected}
+use Rattle.ff_node.specs.Behaviour.{Behaviour, node, node_rejected, node_rejected_count}
 use Rattle.ff_node.specs.Sends.{counted, kept_of}
 use Rattle.ff_stream.specs.declared.report.Report.{Report}
 use Rattle.ff_stream.specs.declared.report.StreamFault.{StreamFault}
@@ -19,8 +19,8 @@ most_bytes = 2 ^ 40
 -- all that node `o` sends for these records to its end was taken, and the report tells its rejects
 pub record IsTold {S : Type 0} (b : Behaviour S) (o : S) (keep : Bool) (xs : List Rec) (before now : Option (List ℕ)) (report : Report) : Type 0 where
   pub output : Appends before now (text (node b o xs))
-  pub rejected : report.rejected ≡ counted (rejected b o xs)
-  pub refused : report.refused ≡ kept_of keep (refused b o xs)
+  pub rejected : report.rejected ≡ counted (node_rejected_count b o xs)
+  pub kept : report.kept ≡ kept_of keep (node_rejected b o xs)
 
 -- what an answer tells of the records that were seen and of the limit that was found
 abbrev pub Tells : {S : Type 0} → Behaviour S → S → Bool → List Rec → Option LineFault → Option (List ℕ) → Option (List ℕ) → Result Report StreamFault → Type 0

@@ -65,7 +65,7 @@ pub record ReadsSome {S : Type 0} (b : Behaviour S) (x : Running S) (r : Reading
 pub record Ends {S : Type 0} (b : Behaviour S) (x : Running S) (xs : List Rec) (before now : Option (List ℕ)) (report : Report) : Type 0 where
   pub output : Appends before now (due b x xs)
   pub rejected : report.rejected ≡ (told b x xs).rejects
-  pub refused : report.refused ≡ (told b x xs).kept
+  pub kept : report.kept ≡ (told b x xs).kept
 
 -- the records that these bytes give, with a last line without a newline where the source ended
 abbrev pub all_given : Reading → List ℕ → Bool → List Rec

@@ -2,7 +2,7 @@
 use Rattle.std.specs.Prelude.{◌≡◌, ℕ, Bool, true, false, List, [], ◌++◌, Option}
 use Rattle.std.specs.Io.KnownBytes.{Appends}
 use Rattle.ff_rec.specs.Lines.{Rec, text}
-use Rattle.ff_node.specs.Behaviour.{Behaviour, sent_from, refused_from}
+use Rattle.ff_node.specs.Behaviour.{Behaviour, sent_from, rejected_from}
 use Rattle.ff_node.specs.Sends.{Sent, add}
 use Rattle.ff_stream.specs.declared.running.Running.{Running}
 
@@ -12,13 +12,13 @@ sent_after b true s xs = []
 sent_after b false s xs = sent_from b s xs
 
 -- what is still rejected
-abbrev pub refused_after : {S : Type 0} → Behaviour S → Bool → S → List Rec → List Rec
-refused_after b true s xs = []
-refused_after b false s xs = refused_from b s xs
+abbrev pub rejected_after : {S : Type 0} → Behaviour S → Bool → S → List Rec → List Rec
+rejected_after b true s xs = []
+rejected_after b false s xs = rejected_from b s xs
 
 -- what is gathered in all with what is still sent and rejected
 abbrev pub in_all : {S : Type 0} → Behaviour S → Bool → S → Sent → List Rec → Sent
-in_all b ended s out xs = add out (sent_after b ended s xs) (refused_after b ended s xs)
+in_all b ended s out xs = add out (sent_after b ended s xs) (rejected_after b ended s xs)
 
 -- the text that is to be written then: what is held of it, and that of all sends
 abbrev pub due : {S : Type 0} → Behaviour S → Running S → List Rec → List ℕ

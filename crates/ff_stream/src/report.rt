@@ -11,7 +11,7 @@ pub struct Report {
     /// How many records it rejected, up to 2^64 - 1.
     pub rejected: u64,
     /// These records, where they were to be kept.
-    pub refused: Records,
+    pub kept: Records,
 }
 
 /// Why a run ended before the end of its input. Where there is a report, the node was brought to its end: all that it
@@ -30,14 +30,14 @@ pub enum StreamFault {
 /// The report of these rejects; those that are kept are taken out.
 pub(crate) fn report_of(alloc: Global, sends: &mut Sends) -> Result<Report, NoMemory>
     ensures number { IfOk result (λ report. report.rejected ≡ sends.old.rejects) }
-    ensures records { IfOk result (λ report. report.refused ≡ sends.old.kept) }
+    ensures records { IfOk result (λ report. report.kept ≡ sends.old.kept) }
 {
-    let mut refused = Records::new(alloc);
+    let mut kept = Records::new(alloc);
     while let Some(r) = sends.take_reject() {
-        refused.push(r)?;
+        kept.push(r)?;
     }
     Ok(Report {
         rejected: sends.rejects(),
-        refused,
+        kept,
     })
 }

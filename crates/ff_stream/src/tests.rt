@@ -152,10 +152,10 @@ fn rejected_records_are_kept(rt: HostRuntime) -> Result<(), Fail> {
             return Err(Fail::from("refused"));
         };
         assert_eq!(rt; report.rejected, 2);
-        assert_eq!(rt; report.refused.len(), if keep { 2 } else { 0 });
+        assert_eq!(rt; report.kept.len(), if keep { 2 } else { 0 });
         if keep {
             for line in [b"a\tb".as_slice(), b"c\t"] {
-                let r = report.refused.take_first().ok_or("too few")?;
+                let r = report.kept.take_first().ok_or("too few")?;
                 assert_eq!(rt; r.joined(), line);
             }
         }

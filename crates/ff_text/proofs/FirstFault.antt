@@ -10,7 +10,7 @@ use Rattle.ff_ops.specs.declared.row.Row.{Row}
 use Rattle.ff_ops.specs.declared.arg.Arg.TheVariants.{Num, Cmp as Compared, Text}
 use Rattle.ff_ops.specs.declared.arg.ArgKind.{ArgKind}
 use Rattle.ff_ops.specs.declared.arg.ArgKind.TheVariants.{Field, Num as AnyNumber, NonZero, Count, Cmp as AnyComparison, Text as AnyText}
-use Rattle.ff_node.specs.declared.cmp.Cmp.{Cmp}
+use Rattle.ff_rec.specs.declared.cmp.Cmp.{Cmp}
 use Rattle.ff_text.specs.declared.fault.TextKind.{TextKind}
 use Rattle.ff_text.specs.declared.fault.TextKind.TheVariants.{TooLong, BadByte, BadToken, UnknownName, Range, Deep, End, Large, TakenName}
 use Rattle.ff_text.specs.declared.form.Form.{Form}

@@ -6,8 +6,8 @@ use Rattle.std.proofs.lemmas.List.{map-append}
 use Rattle.std.proofs.Math.Dec.{leb}
 use Rattle.std.specs.List.{AllByRecursion}
 use Rattle.ff_rec.specs.Number.{IsNumber, printed}
-use Rattle.ff_node.specs.declared.cmp.Cmp.{Cmp}
-use Rattle.ff_node.specs.declared.cmp.Cmp.TheVariants.{Lt, Le, Eq, Ne, Ge, Gt}
+use Rattle.ff_rec.specs.declared.cmp.Cmp.{Cmp}
+use Rattle.ff_rec.specs.declared.cmp.Cmp.TheVariants.{Lt, Le, Eq, Ne, Ge, Gt}
 use Rattle.ff_ops.specs.Arguments.{printed_argument}
 use Rattle.ff_ops.specs.Operation.{OpState, printed_arguments}
 use Rattle.ff_ops.specs.Table.{name_of}

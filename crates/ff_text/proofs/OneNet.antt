@@ -1,7 +1,7 @@
 -- Networks that are spelled alike are the same, whatever stands behind them.
 use Rattle.std.proofs.Common.{◌≡◌, ℕ, zero, suc, Bool, true, false, List, [], ◌∷◌, ◌++◌, map, codes, Option, None, Some, Result, Ok, ℤ, refl, sym, ap, subst, ◌∙◌, append_assoc}
 use Rattle.ff_rec.specs.Fields.{same_bytes}
-use Rattle.ff_node.specs.declared.cmp.Cmp.{Cmp}
+use Rattle.ff_rec.specs.declared.cmp.Cmp.{Cmp}
 use Rattle.ff_ops.specs.Operation.{OpState, read_op}
 use Rattle.ff_ops.specs.Table.{name_of, kinds_of, row_named}
 use Rattle.ff_ops.specs.declared.arg.Arg.{Arg}

@@ -1,8 +1,8 @@
 -- Arguments and comparisons, and their tokens.
 use Rattle.std.proofs.Common.{◌≡◌, Option, None, Some, refl, ap, ◌∙◌}
 use Rattle.std.specs.Option.{option_map}
-use Rattle.ff_node.specs.declared.cmp.Cmp.{Cmp}
-use Rattle.ff_node.specs.declared.cmp.Cmp.TheVariants.{Lt, Le, Eq, Ne, Ge, Gt}
+use Rattle.ff_rec.specs.declared.cmp.Cmp.{Cmp}
+use Rattle.ff_rec.specs.declared.cmp.Cmp.TheVariants.{Lt, Le, Eq, Ne, Ge, Gt}
 use Rattle.ff_ops.specs.declared.arg.Arg.{Arg}
 use Rattle.ff_ops.specs.declared.arg.Arg.TheVariants.{Num, Cmp as Compared, Text}
 use Rattle.ff_text.specs.declared.mark.Mark.{Mark}

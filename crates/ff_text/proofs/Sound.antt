@@ -2,7 +2,7 @@
 use Rattle.std.proofs.Common.{◌≡◌, ℕ, zero, suc, Bool, true, false, ◌&&◌, ◌||◌, cond, IsTrue, List, [], ◌∷◌, ◌++◌, map, codes, Option, None, Some, Result, Ok, Err, ℤ, pos, negsuc, refl, sym, ap, subst, ◌∙◌, append_assoc}
 use Rattle.std.specs.Cmp.Lexicographic.{bytes_decides}
 use Rattle.ff_rec.specs.Fields.{same_bytes}
-use Rattle.ff_node.specs.declared.cmp.Cmp.{Cmp}
+use Rattle.ff_rec.specs.declared.cmp.Cmp.{Cmp}
 use Rattle.ff_ops.specs.Arguments.{suits, is_within, is_numeric}
 use Rattle.ff_ops.specs.Operation.{OpState, operation}
 use Rattle.ff_ops.specs.Table.{name_of, kinds_of, row_named}

@@ -2,7 +2,7 @@
 use Rattle.std.proofs.Common.{◌≡◌, ℕ, zero, suc, Bool, true, false, cond, IsTrue, List, [], ◌∷◌, ◌++◌, map, codes, Option, None, Some, Result, Ok, Err, pos, refl, sym, ap, subst, ◌∙◌, append_assoc}
 use Rattle.std.specs.List.{AllByRecursion}
 use Rattle.ff_rec.specs.Fields.{same_bytes}
-use Rattle.ff_node.specs.declared.cmp.Cmp.TheVariants.{Eq}
+use Rattle.ff_rec.specs.declared.cmp.Cmp.TheVariants.{Eq}
 use Rattle.ff_ops.specs.Arguments.{suits, is_within, is_numeric}
 use Rattle.ff_ops.specs.Table.{kinds_of, row_named}
 use Rattle.ff_ops.specs.declared.row.Row.{Row}

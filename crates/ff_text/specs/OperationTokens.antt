@@ -1,8 +1,8 @@
 -- Operations and their arguments as tokens, and the arguments that tokens are.
 use Rattle.std.specs.Prelude.{◌≡◌, List, ◌∷◌, map, Option, None, Some, Ok}
 use Rattle.std.specs.Option.{option_map}
-use Rattle.ff_node.specs.declared.cmp.Cmp.{Cmp}
-use Rattle.ff_node.specs.declared.cmp.Cmp.TheVariants.{Lt, Le, Eq, Ne, Ge, Gt}
+use Rattle.ff_rec.specs.declared.cmp.Cmp.{Cmp}
+use Rattle.ff_rec.specs.declared.cmp.Cmp.TheVariants.{Lt, Le, Eq, Ne, Ge, Gt}
 use Rattle.ff_ops.specs.Operation.{OpState, read_op}
 use Rattle.ff_ops.specs.Table.{name_of}
 use Rattle.ff_ops.specs.declared.arg.Arg.{Arg}

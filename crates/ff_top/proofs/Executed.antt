@@ -116,7 +116,7 @@ module _ (t : Tree OpState) (tasks : ℕ) (rejects : Option (List ℕ)) (told mi
   early = scene (outside told faults left input_faults taken output_faults) now ended
 
   stored : (n : ℕ) (Cause : List ℕ → Type 0) → HasStored (run_job t tasks rejects) rejects late n Cause → HasStored (run_job t tasks rejects) rejects early n Cause
-  stored n Cause h = record { report = h.report; ran = h.ran; rejected = h.rejected; stored = Stored-all rejects h.report.refused told mid now.told kept h.stored }
+  stored n Cause h = record { report = h.report; ran = h.ran; rejected = h.rejected; stored = Stored-all rejects h.report.kept told mid now.told kept h.stored }
 
   pub Ran-early : (answer : Result ℕ Fault) → Ran (run_job t tasks rejects) rejects late answer → Ran (run_job t tasks rejects) rejects early answer
   Ran-early (Ok n) h = stored n _ h

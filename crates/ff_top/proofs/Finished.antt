@@ -55,7 +55,7 @@ module _ (t : Tree OpState) (tasks : ℕ) (rejects : Option (List ℕ)) (s : Sce
   -- what was stored, lost, or stopped for want of memory behind a run
   Ran-closed : (report : Report) (Cause : List ℕ → Type 0) (done answer : Result ℕ Fault) → HasRun (run_job t tasks rejects) (streams_of s) report Cause
       → ((got : List ℕ) → Cause got → IsReadOut (run_job t tasks rejects) (streams_of s) got)
-      → (Stored rejects report.refused s.before.told s.now.told → Ran (run_job t tasks rejects) rejects s done)
+      → (Stored rejects report.kept s.before.told s.now.told → Ran (run_job t tasks rejects) rejects s done)
       → Closes rejects report s.before.told s.now.told done answer → Ran (run_job t tasks rejects) rejects s answer
   Ran-closed report Cause done answer r out end closes = elim closes [
     | inl closed ↦ subst (λ (a : Result ℕ Fault). Ran (run_job t tasks rejects) rejects s a) (sym closed.0) (end closed.1)

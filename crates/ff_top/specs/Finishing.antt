@@ -19,7 +19,7 @@ pub record HasFailed (rejects : Option (List ℕ)) (report : Report) (told now :
 -- or memory ran out.
 abbrev pub Closes : Option (List ℕ) → Report → Option Holdings → Option Holdings → Result ℕ Fault → Result ℕ Fault → Type 0
 Closes rejects report told now done answer =
-    ((answer ≡ done) × Stored rejects report.refused told now) ⊎ (HasFailed rejects report told now answer ⊎ ((answer ≡ Err NoMemory) × KeepsBut rejects told now))
+    ((answer ≡ done) × Stored rejects report.kept told now) ⊎ (HasFailed rejects report told now answer ⊎ ((answer ≡ Err NoMemory) × KeepsBut rejects told now))
 
 -- by the answer of the network
 abbrev pub Finished : ℕ → Option (List ℕ) → Result Report RunFault → Option Holdings → Option Holdings → Result ℕ Fault → Type 0

@@ -32,7 +32,7 @@ pub record HasStored (j : Job OpState) (rejects : Option (List ℕ)) (s : Scene)
   pub report : Report
   pub ran : HasRun j (streams_of s) report Cause
   pub rejected : count ≡ report.rejected
-  pub stored : Stored rejects report.refused s.before.told s.now.told
+  pub stored : Stored rejects report.kept s.before.told s.now.told
 
 -- the network ran, and then the file for the rejected records couldn't be written
 pub record HasLost (j : Job OpState) (rejects : Option (List ℕ)) (s : Scene) (name : List ℕ) (count : ℕ) : Type 0 where

@@ -21,7 +21,7 @@ pub fn store_rejects<F: Files>(
     report: Report,
 ) -> Result<u64, Fault>
     ensures number { IfOk result (λ n. n ≡ report.rejected) }
-    ensures stored { OnOk result (Stored rejects report.refused (F.told files.old) (F.told files.new)) }
+    ensures stored { OnOk result (Stored rejects report.kept (F.told files.old) (F.told files.new)) }
     ensures fault { IfErr result (IsStoreFault rejects report.rejected) }
     ensures keeps { KeepsBut rejects (F.told files.old) (F.told files.new) }
     ensures counts { F.faults files.new ≡ files_count (F.faults files.old) result }
@@ -29,7 +29,7 @@ pub fn store_rejects<F: Files>(
     let Some(name) = rejects else {
         return Ok(report.rejected);
     };
-    let text = text_of(alloc, report.refused)?;
+    let text = text_of(alloc, report.kept)?;
     match files.store(name.as_str(), &text) {
         Ok(()) => Ok(report.rejected),
         Err(StoreFault::Failed) => Err(Fault::Rejects(name, report.rejected)),

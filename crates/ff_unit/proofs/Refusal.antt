@@ -4,7 +4,7 @@ use Rattle.std.proofs.lemmas.List.{nil_from_length}
 use Rattle.ff_rec.specs.Lines.{Rec}
 use Rattle.ff_rec.specs.Streams.{IsOpen, items, closed}
 use Rattle.ff_rec.specs.declared.msg.Msg.TheVariants.{Item, Mark, Pick, Eos, Abort}
-use Rattle.ff_node.specs.Behaviour.{Behaviour, refused_from}
+use Rattle.ff_node.specs.Behaviour.{Behaviour, rejected_from}
 use Rattle.ff_node.specs.Runs.{Message}
 use Rattle.ff_node.specs.Sends.{count_more, kept_of}
 use Rattle.ff_node.proofs.SendsLaws.{count_more-append, kept_of-append}
@@ -19,7 +19,7 @@ refusal b n (Eos ∷ ms) = b.last_rejects n
 refusal b n (Abort ∷ ms) = refusal b n ms
 
 -- on a closed list it is what the node rejects for the records that it carries
-pub refusal-closed : {N : Type 0} (b : Behaviour N) (n : N) (ms : List Message) → IsOpen ms → refusal b n (closed ms) ≡ refused_from b n (items (closed ms))
+pub refusal-closed : {N : Type 0} (b : Behaviour N) (n : N) (ms : List Message) → IsOpen ms → refusal b n (closed ms) ≡ rejected_from b n (items (closed ms))
 refusal-closed b n [] h = refl
 refusal-closed b n (Item x ∷ ms) h = ap (λ l. b.rejects n x ++ cond (b.ends n x) (b.last_rejects (b.next n x)) l) (refusal-closed b (b.next n x) ms h.1)
 refusal-closed b n (Mark ∷ ms) h = refusal-closed b n ms h.1

@@ -3,7 +3,7 @@ use Rattle.std.proofs.Common.{◌≡◌, ℕ, Bool, true, List, [], ◌∷◌, �
 use Rattle.std.proofs.lemmas.Option.{none-some}
 use Rattle.ff_rec.specs.Lines.{Rec}
 use Rattle.ff_rec.specs.Streams.{at, items}
-use Rattle.ff_node.specs.Behaviour.{Behaviour, KeepsKind, refused_from}
+use Rattle.ff_node.specs.Behaviour.{Behaviour, KeepsKind, rejected_from}
 use Rattle.ff_node.specs.Fits.{FitsRejects}
 use Rattle.ff_node.specs.Runs.{Message, Act, Took, Gave, Refused, Idle, Told, Handed, Leads, HasRun, handed_on}
 use Rattle.ff_node.specs.Sends.{kept_of}
@@ -48,12 +48,12 @@ module _ {N : Type 0} (b : Behaviour N) (o : N) where
 
   -- a stage that is to end by Eos has them all
   RefusesAt-all : (mode : Mode) (n : N) (fin : Option End) (rejects : ℕ) (keeps : Bool) (kept taken : List Rec) (g t : List Message)
-      → TiedAt b o mode n fin g t → fin ≡ Some Eos → RefusesAt b o mode n rejects keeps kept taken g → AreRefused rejects keeps kept taken (refused_from b o (items g))
+      → TiedAt b o mode n fin g t → fin ≡ Some Eos → RefusesAt b o mode n rejects keeps kept taken g → AreRefused rejects keeps kept taken (rejected_from b o (items g))
   RefusesAt-all Live n fin rejects keeps kept taken g t h e r = absurd (none-some Eos (sym h.undecided ∙ e))
   RefusesAt-all Shut n fin rejects keeps kept taken g t h e r =
       let ins : IsClosed g = subst (λ f. EndsIn f g) e h.ends in
       subst (AreRefused rejects keeps kept taken)
-      (sym (r.exact []) ∙ ap (refusal b o) (append-nil g ∙ ins.is) ∙ refusal-closed b o ins.inner ins.open_inner ∙ ap (λ l. refused_from b o (items l)) (sym ins.is))
+      (sym (r.exact []) ∙ ap (refusal b o) (append-nil g ∙ ins.is) ∙ refusal-closed b o ins.inner ins.open_inner ∙ ap (λ l. rejected_from b o (items l)) (sym ins.is))
       r.counts
   RefusesAt-all Cut n fin rejects keeps kept taken g t h e r = absurd (subst IsCutEnd e h.ends)
 
@@ -71,8 +71,8 @@ module _ {N : Type 0} (b : Behaviour N) (kind : KeepsKind b) where
       let gots_are = run.takes ∙ took_on-one b (opening_stage b u) run.acts u run.leads in (
         taken,
         subst (λ l. FitsRejects b u.node u.keeps (items (at l 0)) u.rejects taken u.kept) (sym gots_are) (record {
-          number_is = a.number ∙ count_more-zero (refused_from b o (items g));
-          kept = λ keeps. a.held ∙ ap (λ k. kept_of k (refused_from b o (items g))) keeps;
-          none = λ keeps. AreRefused-none u.rejects u.kept taken (refused_from b o (items g)) (subst (λ k. AreRefused u.rejects k u.kept taken (refused_from b o (items g))) keeps a);
+          number_is = a.number ∙ count_more-zero (rejected_from b o (items g));
+          kept = λ keeps. a.held ∙ ap (λ k. kept_of k (rejected_from b o (items g))) keeps;
+          none = λ keeps. AreRefused-none u.rejects u.kept taken (rejected_from b o (items g)) (subst (λ k. AreRefused u.rejects k u.kept taken (rejected_from b o (items g))) keeps a);
         }),
       )

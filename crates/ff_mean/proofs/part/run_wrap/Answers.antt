@@ -1,8 +1,8 @@
 -- One node means itself, and several mean their line.
 use Rattle.std.proofs.Common.{ap}
-use Rattle.ff_node.specs.Behaviour.{node, refused}
+use Rattle.ff_node.specs.Behaviour.{node, node_rejected}
 use Rattle.ff_node.specs.Comb.{comb_node}
-use Rattle.ff_net.specs.Meaning.{mean, lost}
+use Rattle.ff_net.specs.Meaning.{mean, mean_rejected}
 use Rattle.ff_net.specs.Tree.{tree_of}
 use Rattle.ff_mean.specs.Gathering.{HasRunRounds}
 use Rattle.ff_mean.proofs.PartSteps.{IfOk-map}
@@ -16,8 +16,8 @@ returns-in-Leaf g c =
     let s = c.in_ok-copy.field-0 in
     let m = c.args.limit in
     let p = c.args.test.now in
-    IfOk-map (λ answer. HasRunRounds (node b s) (refused b s) p m c.args.input c.args.out.now c.run_rounds.new.out answer)
-    (λ answer. HasRunRounds (mean b m t) (lost b m t) p m c.args.input c.args.out.now c.run_rounds.new.out answer)
+    IfOk-map (λ answer. HasRunRounds (node b s) (node_rejected b s) p m c.args.input c.args.out.now c.run_rounds.new.out answer)
+    (λ answer. HasRunRounds (mean b m t) (mean_rejected b m t) p m c.args.input c.args.out.now c.run_rounds.new.out answer)
     (λ answer ran. HasRunRounds-leaf b g.met.N.Node.keeps_kind t c.in-Leaf.node s m p c.args.input c.args.out.now c.run_rounds.new.out answer (ap tree_of c.in-Leaf.is) c.in_ok-copy.ensures ran)
     c.run_rounds.result c.run_rounds.ensures
 
@@ -40,8 +40,8 @@ returns g c =
     let ps = c.new-comb.result in
     let m = c.args.limit in
     let p = c.args.test.now in
-    IfOk-map (λ answer. HasRunRounds (node (comb_node b) ps) (refused (comb_node b) ps) p m c.args.input c.args.out.now c.run_rounds-2.new.out answer)
-    (λ answer. HasRunRounds (mean b m t) (lost b m t) p m c.args.input c.args.out.now c.run_rounds-2.new.out answer)
+    IfOk-map (λ answer. HasRunRounds (node (comb_node b) ps) (node_rejected (comb_node b) ps) p m c.args.input c.args.out.now c.run_rounds-2.new.out answer)
+    (λ answer. HasRunRounds (mean b m t) (mean_rejected b m t) p m c.args.input c.args.out.now c.run_rounds-2.new.out answer)
     (λ answer ran. HasRunRounds-comb b g.met.N.Node.keeps_kind t c.in_ok-nodes_of.field-0.items c.in_ok-nodes_of.ensures c.requires.plain c.requires.good ps c.new-comb.ensures
     m p c.args.input c.args.out.now c.run_rounds-2.new.out answer ran)
     c.run_rounds-2.result c.run_rounds-2.ensures

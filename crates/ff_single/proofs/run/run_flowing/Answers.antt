@@ -11,4 +11,4 @@ returns-in_err-nodes-clause-run g c =
     rw (p.1, p.2) (HasBegun-none (job g.N.Node.does (tree_of c.args.checked.now.net) c.args.checked.now.version c.args.limit c.args.keep) _ _ _ _ _)
 
 pub returns-in-1-to-64-clause-run : goal.returns-in-1-to-64-clause-run
-returns-in-1-to-64-clause-run g c = c.run_line.ensures.run c.args.limit
+returns-in-1-to-64-clause-run g c = c.run_pipeline.ensures.run c.args.limit

@@ -22,10 +22,10 @@ returns-in_err-write_records-in-Done-clause-run g c =
     let p = err_from_is_err_and c.from_residual-in_err-write_records-in-Done.result c.from_residual-in_err-write_records-in-Done.ensures.1 in
     let j = job g.N.Node.does (tree_of c.args.checked.now.net) c.args.checked.now.version c.args.limit c.args.keep in
     let read = HasRead-by c.version.result c.args.checked.now.version _ _ _ c.in_ok-input.input.stop c.in_ok-input.input.records c.version.ensures c.in_ok-input.ensures.ok in
-    let meant = IsMeant-done j c.in_ok-input.input.records _ c.in-Done.sent c.in-Done.rejected c.in-Done.refused c.in_ok-run_one.ensures c.in-Done.is in
+    let meant = IsMeant-done j c.in_ok-input.input.records _ c.in-Done.sent c.in-Done.rejected c.in-Done.kept c.in_ok-run_one.ensures c.in-Done.is in
     rw (p.1, p.2)
     (Ran-halted j _ _ _ _ _ _ _ c.in_err-write_records-in-Done.field-0.0
-    (IsCutShort-read j _ _ _ _ _ _ _ c.in_ok-input.input.stop c.in_ok-input.input.records c.in-Done.sent c.in-Done.rejected c.in-Done.refused
+    (IsCutShort-read j _ _ _ _ _ _ _ c.in_ok-input.input.stop c.in_ok-input.input.records c.in-Done.sent c.in-Done.rejected c.in-Done.kept
     read meant c.in_err-write_records-in-Done.ensures.prefix c.in_ok-input.ensures.counts))
 
 pub returns-in-Over-clause-run : goal.returns-in-Over-clause-run
@@ -39,7 +39,7 @@ pub returns-in_ok-write_records-in-Done-clause-run : goal.returns-in_ok-write_re
 returns-in_ok-write_records-in-Done-clause-run g c =
     let j = job g.N.Node.does (tree_of c.args.checked.now.net) c.args.checked.now.version c.args.limit c.args.keep in
     let read = HasRead-by c.version.result c.args.checked.now.version _ _ _ c.in_ok-input.input.stop c.in_ok-input.input.records c.version.ensures c.in_ok-input.ensures.ok in
-    let meant = IsMeant-done j c.in_ok-input.input.records _ c.in-Done.sent c.in-Done.rejected c.in-Done.refused c.in_ok-run_one.ensures c.in-Done.is in
+    let meant = IsMeant-done j c.in_ok-input.input.records _ c.in-Done.sent c.in-Done.rejected c.in-Done.kept c.in_ok-run_one.ensures c.in-Done.is in
     rw c.answer.ensures
     (Ran-read j _ _ _ _ _ _ _ c.in_ok-input.input.stop c.in_ok-input.input.records c.in-Done.sent
-    (record { rejected = c.in-Done.rejected; refused = c.in-Done.refused }) read meant c.in_ok-write_records-in-Done.ensures.all)
+    (record { rejected = c.in-Done.rejected; kept = c.in-Done.kept }) read meant c.in_ok-write_records-in-Done.ensures.all)

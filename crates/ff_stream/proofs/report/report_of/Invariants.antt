@@ -4,7 +4,7 @@ use Rattle.ff_stream.proofs.report.report_of.Given as goal
 -- what was taken out so far, and what is left of it
 abbrev pub invariant-loop-r : goal.invariant-loop-r
 invariant-loop-r l = record {
-  all : l.refused ++ l.sends.kept ≡ l.initial.sends.kept;
+  all : l.kept ++ l.sends.kept ≡ l.initial.sends.kept;
   number : l.sends.rejects ≡ l.initial.sends.rejects;
 }
 

@@ -1,7 +1,7 @@
 -- How two numbers stand to each other.
 use Rattle.std.specs.Prelude.{Bool, not, ◌&&◌, ℤ, int_lt, int_le}
-use Rattle.ff_node.specs.declared.cmp.Cmp.{Cmp}
-use Rattle.ff_node.specs.declared.cmp.Cmp.TheVariants.{Lt, Le, Eq, Ne, Ge, Gt}
+use Rattle.ff_rec.specs.declared.cmp.Cmp.{Cmp}
+use Rattle.ff_rec.specs.declared.cmp.Cmp.TheVariants.{Lt, Le, Eq, Ne, Ge, Gt}
 
 -- whether a comparison holds of `x` and `y`
 abbrev pub compares : Cmp → ℤ → ℤ → Bool

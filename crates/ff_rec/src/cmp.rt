@@ -1,6 +1,6 @@
 // How two numbers stand to each other.
 ghost use Rattle.std.specs.Prelude.{◌≡◌};
-ghost use Rattle.ff_node.specs.Cmp.{compares};
+ghost use Rattle.ff_rec.specs.Cmp.{compares};
 
 /// A comparison of two numbers.
 #[derive(Clone, Copy, Debug, PartialEq, Eq, Hash)]

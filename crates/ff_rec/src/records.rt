@@ -1,9 +1,8 @@
 // A list of records that is used up from its front.
-ghost use Rattle.std.specs.Prelude.{◌≡◌, ◌↔◌, ◌≤◌, [], ◌∷◌, ◌++◌, None, length, slice_get, IsTrue, OnOk, OnErr, MatchOption, Some};
-ghost use Rattle.ff_node.specs.Records.{TakesFirst};
+ghost use Rattle.std.specs.Prelude.{◌≡◌, ◌↔◌, ◌≤◌, [], ◌∷◌, ◌++◌, None, length, slice_get, IsTrue, OnOk, OnErr, MatchOption, Some, IfOk};
+ghost use Rattle.ff_rec.specs.Records.{TakesFirst};
 
-use crate::copies::copies;
-use ff_rec::{Kept, NoMemory, Record};
+use crate::{Kept, NoMemory, Record};
 use std::alloc::Global;
 use std::collections::VecDeque;
 use std::marker::Model;
@@ -76,4 +75,15 @@ impl Kept for Records {
             list: copies(&self.list)?,
         })
     }
+}
+
+/// The same records in the same order, in memory of their own.
+pub fn copies(list: &VecDeque<Record>) -> Result<VecDeque<Record>, NoMemory>
+    ensures { IfOk result (λ other. other.items ≡ list.now.items) }
+{
+    let mut other = VecDeque::with_capacity(*list.allocator(), list.len())?;
+    for r in list.iter() {
+        other.push_back(r.copy()?)?;
+    }
+    Ok(other)
 }
