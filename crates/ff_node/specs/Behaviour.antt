@@ -42,22 +42,22 @@ abbrev pub node : {S : Type 0} → Behaviour S → S → List Rec → List Rec
 node b o xs = sent_from b (b.opening o) xs
 
 -- what node `o` rejects for a list of records
-abbrev pub refused : {S : Type 0} → Behaviour S → S → List Rec → List Rec
-refused b o xs = rejected_from b (b.opening o) xs
+abbrev pub node_rejected : {S : Type 0} → Behaviour S → S → List Rec → List Rec
+node_rejected b o xs = rejected_from b (b.opening o) xs
 
 -- how many records node `o` rejects for a list of records
-abbrev pub rejected : {S : Type 0} → Behaviour S → S → List Rec → ℕ
-rejected b o xs = length (refused b o xs)
+abbrev pub node_rejected_count : {S : Type 0} → Behaviour S → S → List Rec → ℕ
+node_rejected_count b o xs = length (node_rejected b o xs)
 
 -- what nodes send one behind another, each fed with what the one before it sends
-abbrev pub line : {S : Type 0} → Behaviour S → List S → List Rec → List Rec
-line b [] xs = xs
-line b (o ∷ os) xs = line b os (node b o xs)
+abbrev pub pipeline : {S : Type 0} → Behaviour S → List S → List Rec → List Rec
+pipeline b [] xs = xs
+pipeline b (o ∷ os) xs = pipeline b os (node b o xs)
 
 -- what these nodes reject along the way
 abbrev pub pipeline_rejected : {S : Type 0} → Behaviour S → List S → List Rec → List Rec
 pipeline_rejected b [] xs = []
-pipeline_rejected b (o ∷ os) xs = refused b o xs ++ pipeline_rejected b os (node b o xs)
+pipeline_rejected b (o ∷ os) xs = node_rejected b o xs ++ pipeline_rejected b os (node b o xs)
 
 -- what a node does is fixed when it is made: no state changes its opening state or its class
 pub record KeepsKind {S : Type 0} (b : Behaviour S) : Type 0 where

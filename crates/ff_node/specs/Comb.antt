@@ -132,8 +132,8 @@ abbrev pub nodes_of : {N : Type 0} → List (Part N) → List N
 nodes_of ps = map (λ p. p.node) ps
 
 -- a comb sends what its nodes send one behind another, and rejects each record as often as they do along the way
-abbrev pub CombIsLine : {N : Type 0} → Behaviour N → Type 0
-CombIsLine {N} b = (ps : List (Part N)) (xs : List Rec)
+abbrev pub CombIsPipeline : {N : Type 0} → Behaviour N → Type 0
+CombIsPipeline {N} b = (ps : List (Part N)) (xs : List Rec)
     → (node (comb_node b) ps xs ≡ pipeline b (nodes_of ps) xs) × Same (node_rejected (comb_node b) ps xs) (pipeline_rejected b (nodes_of ps) xs)
 
 -- a comb whose first node runs ends after the records that end this node

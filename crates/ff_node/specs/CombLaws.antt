@@ -5,7 +5,7 @@ use Rattle.ff_rec.specs.Lines.{Rec}
 use Rattle.ff_rec.specs.Weights.{weigh, Same}
 use Rattle.ff_rec.proofs.WeightLaws.{weigh-append}
 use Rattle.ff_node.specs.Behaviour.{Behaviour, node, node_rejected, pipeline, pipeline_rejected, sent_from, rejected_from, state_from}
-use Rattle.ff_node.specs.Comb.{Part, part, part_sends, part_rejects, part_after, part_total, part_total_rejects, through, through_rejects, through_after, total, total_rejects, opened, first_ended, comb_node, nodes_of, CombIsLine, CombEndsWithFirst}
+use Rattle.ff_node.specs.Comb.{Part, part, part_sends, part_rejects, part_after, part_total, part_total_rejects, through, through_rejects, through_after, total, total_rejects, opened, first_ended, comb_node, nodes_of, CombIsPipeline, CombEndsWithFirst}
 use Rattle.ff_node.specs.CombParts.{part_sends-total, part_rejects-total, part_sends-append, part_after-append}
 
 module _ {N : Type 0} (b : Behaviour N) where
@@ -108,7 +108,7 @@ module _ {N : Type 0} (b : Behaviour N) where
   pub node_rejected-comb : (ps : List (Part N)) (xs : List Rec) → Same (node_rejected (comb_node b) ps xs) (pipeline_rejected b (nodes_of ps) xs)
   node_rejected-comb ps xs = record { by = λ h. rejected_from-comb h (map (opened b) ps) xs ∙ ap (weigh h) (total_rejects-opened ps xs) }
 
-  pub comb-is_pipeline : CombIsLine b
+  pub comb-is_pipeline : CombIsPipeline b
   comb-is_pipeline ps xs = (node-comb ps xs, node_rejected-comb ps xs)
 
   pub comb-ends_with_first : CombEndsWithFirst b

@@ -1,5 +1,5 @@
 // What holds of every node, whatever the call.
-ghost use Rattle.ff_node.specs.Comb.{CombIsLine, CombEndsWithFirst};
+ghost use Rattle.ff_node.specs.Comb.{CombIsPipeline, CombEndsWithFirst};
 ghost use Rattle.ff_node.specs.OnLists.{PlainGoesByRecords, UnorderedGoesByCounts, KeyedGoesByKeys};
 
 use crate::Node;
@@ -13,6 +13,6 @@ pub fn class_laws<N: Node>(_node: &N)
 
 /// A comb is its nodes one behind another, and ends where the first does.
 pub fn comb_is_composition<N: Node>(_node: &N)
-    ensures line { CombIsLine N.does }
+    ensures line { CombIsPipeline N.does }
     ensures ends { CombEndsWithFirst N.does }
 {}

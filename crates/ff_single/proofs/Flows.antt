@@ -6,7 +6,7 @@ use Rattle.ff_io.specs.Bytes.{AppendsPrefix}
 use Rattle.ff_rec.specs.Lines.{Rec, text}
 use Rattle.ff_rec.proofs.WeightLaws.{Same-≡, Same-trans, Same-sym, Same-length}
 use Rattle.ff_node.specs.Behaviour.{Behaviour, KeepsKind, node, node_rejected, pipeline, pipeline_rejected, sent_from, rejected_from}
-use Rattle.ff_node.specs.Comb.{running, nodes_of, comb_node, CombIsLine}
+use Rattle.ff_node.specs.Comb.{running, nodes_of, comb_node, CombIsPipeline}
 use Rattle.ff_node.specs.Sends.{counted}
 use Rattle.ff_net.specs.Forms.{has_wrap}
 use Rattle.ff_net.specs.Meaning.{Answers}
@@ -56,7 +56,7 @@ module _ {N : Type 0} (b : Behaviour N) (kind : KeepsKind b) where
   nodes_of-running (o ∷ os) = ap (λ (l : List N). o ∷ l) (nodes_of-running os)
 
   -- a network that is a line of nodes, as the comb of these
-  pub IsNodeOf-comb : (t : Tree N) (items : List N) → has_wrap t ≡ false → IsLine b t → CombIsLine b → items ≡ map b.opening (nodes_in t) → IsNodeOf b t (comb_node b) (running items)
+  pub IsNodeOf-comb : (t : Tree N) (items : List N) → has_wrap t ≡ false → IsLine b t → CombIsPipeline b → items ≡ map b.opening (nodes_in t) → IsNodeOf b t (comb_node b) (running items)
   IsNodeOf-comb t items no_wrap lined combed copied = record {
     no_wrap = no_wrap;
     fine = lined.fine;
