@@ -42,7 +42,7 @@ abbrev mutual
 
 abbrev mutual
   -- what all nodes reject along the way; in a wrap on all levels
-  pub rejected : {N : Type 0} → Behaviour N → ℕ → Tree N → List Rec → List Rec
+  pub mean_rejected : {N : Type 0} → Behaviour N → ℕ → Tree N → List Rec → List Rec
   mean_rejected b m (Leaf o) xs = node_rejected b o xs
   mean_rejected b m (Pipe ts) xs = mean_rejected_through b m ts xs
   mean_rejected b m (Comb ts) xs = mean_rejected_through b m ts xs
