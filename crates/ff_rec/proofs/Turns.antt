@@ -24,10 +24,10 @@ slice_range-drop xs f a c low =
     ap₂ (λ (n : ℕ) (q : List ℕ). take n q) (omega arith) (drop-drop (a - f) f xs ∙ ap (λ (n : ℕ). drop n xs) (omega arith))
 
 -- two parts of a slice and what stands between them, turned
-pub parts_swapped : (xs zs : List ℕ) (f e t u : ℕ) → f ≤ e → e ≤ t → t ≤ u → u ≤ length xs
+pub put_mid-parts_swapped : (xs zs : List ℕ) (f e t u : ℕ) → f ≤ e → e ≤ t → t ≤ u → u ≤ length xs
     → zs ≡ drop (t - f) (take (u - f) (drop f xs)) ++ (slice_range (take (u - f) (drop f xs)) (e - f) (t - f) ++ take (e - f) (take (u - f) (drop f xs)))
     → put_mid f (u - f) xs zs ≡ take f xs ++ ((slice_range xs t u ++ (slice_range xs e t ++ slice_range xs f e)) ++ drop u xs)
-parts_swapped xs zs f e t u fe et tu within is =
+put_mid-parts_swapped xs zs f e t u fe et tu within is =
     let part = take (u - f) (drop f xs) in
     let last : drop (t - f) part ≡ slice_range xs t u = sym (between_is (drop f xs) (t - f) (u - f)) ∙ slice_range-drop xs f t u (omega arith) in
     let mid : slice_range part (e - f) (t - f) ≡ slice_range xs e t =

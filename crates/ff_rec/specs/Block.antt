@@ -27,3 +27,9 @@ pub record IsPlace (block : List ℕ) (k start end : ℕ) : Type 0 where
   pub here : slice_range block start end ≡ slice_index_or (cut 9 block) k []
   pub front : take start block ≡ before (take k (cut 9 block))
   pub back : drop end block ≡ behind (drop (suc k) (cut 9 block))
+
+-- the bytes with the part from `first` up to `first_end` and that from `second` up to `second_end` in each other's place
+abbrev pub parts_swapped : List ℕ → ℕ → ℕ → ℕ → ℕ → List ℕ
+parts_swapped bytes first first_end second second_end =
+    take first bytes
+    ++ ((slice_range bytes second second_end ++ (slice_range bytes first_end second ++ slice_range bytes first first_end)) ++ drop second_end bytes)

@@ -10,6 +10,8 @@ pub mod Field
 pub mod Times
 pub mod Contents
 pub mod Block
+pub mod Stored
+pub mod Held
 pub mod Streams
 pub mod Reading
 pub mod Limits

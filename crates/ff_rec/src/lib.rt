@@ -2,6 +2,7 @@
 #![tactic(auto)]
 
 mod block;
+mod bytes;
 mod cmp;
 mod fault;
 mod field;

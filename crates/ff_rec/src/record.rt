@@ -11,7 +11,8 @@ mod edits;
 #[cfg(test)]
 mod tests;
 
-use crate::block::{append_line, place, push_field, put};
+use crate::block::{place, push_field, put};
+use crate::bytes::Bytes;
 use crate::tabs::count_tabs;
 use crate::{CutFault, Field, Kept, NoMemory, PushFault, read_number};
 use itoa::Buffer;
@@ -24,8 +25,7 @@ pub const MOST_FIELDS: usize = 64;
 /// 1 to 64 fields, numbered from 1.
 #[derive(Debug, Drop)]
 pub struct Record {
-    block: Vec<u8>,
-    count: usize,
+    block: Bytes,
 }
 
 impl Model for Record {
@@ -37,7 +37,7 @@ impl Model for Record {
 
     ghost view = { λ r. cut 9 r.block.items };
 
-    ghost invariant = { λ r. IsBlock r.block.items r.count };
+    ghost invariant = { λ r. IsBlock r.block.items r.block.count };
 }
 
 impl Record {
@@ -46,8 +46,7 @@ impl Record {
         ensures { IfOk result (λ r. r ≡ first.now ∷ []) }
     {
         Ok(Record {
-            block: Vec::from_slice(alloc, first.bytes())?,
-            count: 1,
+            block: Bytes::of(alloc, first.bytes(), 1)?,
         })
     }
 
@@ -57,8 +56,7 @@ impl Record {
         ensures { IfOk result (λ r. r ≡ bytes.now ∷ []) }
     {
         Ok(Record {
-            block: Vec::from_slice(alloc, bytes)?,
-            count: 1,
+            block: Bytes::of(alloc, bytes, 1)?,
         })
     }
 
@@ -73,9 +71,9 @@ impl Record {
         if MOST_FIELDS < count {
             return Err(CutFault::TooManyFields);
         }
-        match Vec::from_slice(alloc, line) {
-            Ok(block) => Ok(Record { block, count }),
-            Err(_) => Err(CutFault::NoMemory),
+        match Bytes::of(alloc, line, count as u8) {
+            Ok(block) => Ok(Record { block }),
+            Err(NoMemory) => Err(CutFault::NoMemory),
         }
     }
 
@@ -84,7 +82,7 @@ impl Record {
         ensures len { result ≡ length self.now }
         ensures within { IsRec self.now }
     {
-        self.count
+        usize::from(self.block.count())
     }
 
     /// The bytes of field `k`, counted from 1.
@@ -92,11 +90,12 @@ impl Record {
         ensures field { MatchOption result (field_at k self.now ≡ None) (λ bytes. field_at k self.now ≡ Some bytes.now) }
         ensures plain { IfSome result (λ bytes. IsPlain bytes.now) }
     {
-        if k == 0 || self.count < k {
+        let count = usize::from(self.block.count());
+        if k == 0 || count < k {
             return None;
         }
         let block = self.block.as_slice();
-        let (start, end) = place(block, self.count, k - 1);
+        let (start, end) = place(block, count, k - 1);
         Some(&block[start..end])
     }
 
@@ -111,7 +110,7 @@ impl Record {
 
     /// Where its memory comes from.
     pub fn allocator(&self) -> Global {
-        *self.block.allocator()
+        self.block.allocator()
     }
 
     /// The fields joined by single tabs.
@@ -127,12 +126,13 @@ impl Record {
         ensures full { IsErrOf result Full ↔ (length self.old ≡ MOST_FIELDS) }
         ensures err { OnErr result (self.new ≡ self.old) }
     {
-        if self.count == MOST_FIELDS {
+        let count = self.block.count();
+        if usize::from(count) == MOST_FIELDS {
             return Err(PushFault::Full);
         }
         match push_field(&mut self.block, field.bytes()) {
             Ok(()) => {
-                self.count += 1;
+                self.block.set_count(count + 1);
                 Ok(())
             }
             Err(NoMemory) => Err(PushFault::NoMemory),
@@ -146,7 +146,7 @@ impl Record {
         ensures ok { OnOk result (self.new ≡ slice_set self.old (k - 1) field.now) }
         ensures err { OnErr result (self.new ≡ self.old) }
     {
-        put(&mut self.block, self.count, k - 1, field.bytes())
+        put(&mut self.block, k - 1, field.bytes())
     }
 
     /// Puts a number, as it is printed, in the place of field `k`, counted from 1. It makes no block of its own where
@@ -158,20 +158,14 @@ impl Record {
         ensures err { OnErr result (self.new ≡ self.old) }
     {
         let mut buffer = Buffer::new();
-        put(
-            &mut self.block,
-            self.count,
-            k - 1,
-            buffer.format(n).as_bytes(),
-        )
+        put(&mut self.block, k - 1, buffer.format(n).as_bytes())
     }
 }
 
 impl Kept for Record {
     fn copy(&self) -> Result<Record, NoMemory> {
         Ok(Record {
-            block: self.block.clone()?,
-            count: self.count,
+            block: self.block.copy()?,
         })
     }
 }
@@ -181,5 +175,9 @@ pub fn print_record(r: &Record, into: &mut Vec<u8>) -> Result<(), NoMemory>
     ensures ok { OnOk result (into.new.items ≡ into.old.items ++ line_of r.now) }
     ensures err { OnErr result (into.new.items ≡ into.old.items) }
 {
-    append_line(into, r.joined())
+    let line = r.joined();
+    into.reserve(line.len() + 1)?;
+    into.extend_from_slice(line)?;
+    into.push(b'\n')?;
+    Ok(())
 }

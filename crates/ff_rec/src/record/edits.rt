@@ -14,12 +14,13 @@ impl Record {
         ensures full { IsErrOf result Full ↔ (length self.old ≡ MOST_FIELDS) }
         ensures err { OnErr result (self.new ≡ self.old) }
     {
-        if self.count == MOST_FIELDS {
+        let count = self.block.count();
+        if usize::from(count) == MOST_FIELDS {
             return Err(PushFault::Full);
         }
         match push_front(&mut self.block, field.bytes()) {
             Ok(()) => {
-                self.count += 1;
+                self.block.set_count(count + 1);
                 Ok(())
             }
             Err(NoMemory) => Err(PushFault::NoMemory),
@@ -35,7 +36,7 @@ impl Record {
         ensures ok { OnOk result (self.new ≡ swap self.old (k - 1) (l - 1)) }
         ensures err { OnErr result (self.new ≡ self.old) }
     {
-        exchange(&mut self.block, self.count, k - 1, l - 1);
+        exchange(&mut self.block, k - 1, l - 1);
         Ok(())
     }
 
@@ -46,8 +47,9 @@ impl Record {
         requires others { 2 ≤ length self.old }
         ensures { self.new ≡ remove self.old (k - 1) }
     {
-        take_out(&mut self.block, self.count, k - 1);
-        self.count -= 1;
+        let count = self.block.count();
+        take_out(&mut self.block, k - 1);
+        self.block.set_count(count - 1);
     }
 
     /// Makes field `k`, counted from 1, the only field. It takes no memory.
@@ -56,7 +58,7 @@ impl Record {
         requires high { k ≤ length self.old }
         ensures { self.new ≡ slice_index_or self.old (k - 1) [] ∷ [] }
     {
-        keep(&mut self.block, self.count, k - 1);
-        self.count = 1;
+        keep(&mut self.block, k - 1);
+        self.block.set_count(1);
     }
 }

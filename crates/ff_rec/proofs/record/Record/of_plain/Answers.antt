@@ -7,8 +7,8 @@ use Rattle.ff_rec.proofs.Places.{IsBlock-field}
 use Rattle.ff_rec.proofs.record.Record.of_plain.Goals as goal
 
 pub invariant_of-result : goal.invariant_of-result
-invariant_of-result c = subst (λ b. IsBlock b 1) (sym c.in_ok-from_slice.ensures.items) (IsBlock-field c.args.bytes.now c.requires)
+invariant_of-result c = subst (λ b. IsBlock b 1) (sym (ap (λ (b : Counted). b.items) c.in_ok-of.ensures)) (IsBlock-field c.args.bytes.now c.requires)
 
 pub returns : goal.returns
 returns c =
-    ap (cut 9) c.in_ok-from_slice.ensures.items ∙ cut-IsPlain c.args.bytes.now c.requires
+    ap (cut 9) (ap (λ (b : Counted). b.items) c.in_ok-of.ensures) ∙ cut-IsPlain c.args.bytes.now c.requires

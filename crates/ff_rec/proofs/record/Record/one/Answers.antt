@@ -7,8 +7,8 @@ use Rattle.ff_rec.proofs.Places.{IsBlock-field}
 use Rattle.ff_rec.proofs.record.Record.one.Goals as goal
 
 pub invariant_of-result : goal.invariant_of-result
-invariant_of-result c = subst (λ b. IsBlock b 1) (sym c.in_ok-from_slice.ensures.items) (IsBlock-field c.bytes.result.now c.bytes.ensures.plain)
+invariant_of-result c = subst (λ b. IsBlock b 1) (sym (ap (λ (b : Counted). b.items) c.in_ok-of.ensures)) (IsBlock-field c.bytes.result.now c.bytes.ensures.plain)
 
 pub returns : goal.returns
 returns c =
-    ap (cut 9) c.in_ok-from_slice.ensures.items ∙ cut-IsPlain c.bytes.result.now c.bytes.ensures.plain ∙ ap (λ (f : List ℕ). f ∷ []) c.bytes.ensures.bytes
+    ap (cut 9) (ap (λ (b : Counted). b.items) c.in_ok-of.ensures) ∙ cut-IsPlain c.bytes.result.now c.bytes.ensures.plain ∙ ap (λ (f : List ℕ). f ∷ []) c.bytes.ensures.bytes

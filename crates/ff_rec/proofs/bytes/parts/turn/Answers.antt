@@ -1,7 +1,7 @@
 -- All is turned, and then what came from the front.
 use Rattle.std.proofs.Common.{refl}
 use Rattle.ff_rec.proofs.Turns.{turned}
-use Rattle.ff_rec.proofs.block.edits.turn.Goals as goal
+use Rattle.ff_rec.proofs.bytes.parts.turn.Goals as goal
 
 pub returns : goal.returns
 returns c =

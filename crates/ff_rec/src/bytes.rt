@@ -1,0 +1,184 @@
+// The bytes of a record and the number of its fields: in place where the bytes are few, else in one heap block.
+ghost use Rattle.std.specs.Prelude.{◌≡◌, ◌++◌, ◌≤◌, length, take, drop, slice_range, IfOk, OnOk, OnErr};
+ghost use Rattle.ff_rec.specs.Block.{parts_swapped};
+ghost use Rattle.ff_rec.specs.Stored.{stored_as};
+
+mod long;
+mod parts;
+mod short;
+
+use crate::NoMemory;
+use long::{narrow, replace};
+use parts::swap_parts;
+use short::{SHORT, Short};
+use std::alloc::Global;
+use std::marker::Model;
+
+/// Bytes and a count.
+#[derive(Debug, Drop)]
+pub struct Bytes {
+    held: Held,
+    alloc: Global,
+}
+
+// The count stands beside the tag, where it takes no room of its own.
+#[derive(Debug, Drop)]
+enum Held {
+    Few(u8, Short),
+    Many(u8, Vec<u8>),
+}
+
+impl Model for Bytes {
+    ghost use Rattle.ff_rec.specs.Stored.{Stored};
+
+    ghost Value = { Stored };
+
+    ghost use Rattle.ff_rec.specs.Held.{stored};
+
+    ghost view = { λ b. stored b.held };
+}
+
+impl Bytes {
+    /// These bytes, with this count.
+    #[inline]
+    pub fn of(alloc: Global, bytes: &[u8], count: u8) -> Result<Bytes, NoMemory>
+        ensures { IfOk result (λ b. b ≡ stored_as bytes.now count) }
+    {
+        let held = if bytes.len() <= SHORT {
+            Held::Few(count, Short::of(bytes))
+        } else {
+            Held::Many(count, Vec::from_slice(alloc, bytes)?)
+        };
+        Ok(Bytes { held, alloc })
+    }
+
+    /// An equal value.
+    #[inline]
+    pub fn copy(&self) -> Result<Bytes, NoMemory>
+        ensures { IfOk result (λ b. b ≡ self.now) }
+    {
+        let held = match &self.held {
+            Held::Few(count, short) => Held::Few(*count, short.copy()),
+            Held::Many(count, block) => Held::Many(*count, block.clone()?),
+        };
+        Ok(Bytes {
+            held,
+            alloc: self.alloc,
+        })
+    }
+
+    /// Where a heap block comes from.
+    #[inline]
+    pub fn allocator(&self) -> Global {
+        self.alloc
+    }
+
+    /// The bytes.
+    #[inline]
+    pub fn as_slice(&self) -> &[u8]
+        ensures { result.now ≡ self.now.items }
+    {
+        match &self.held {
+            Held::Few(_, short) => short.as_slice(),
+            Held::Many(_, block) => block.as_slice(),
+        }
+    }
+
+    /// The count.
+    #[inline]
+    pub fn count(&self) -> u8
+        ensures { result ≡ self.now.count }
+    {
+        match &self.held {
+            Held::Few(count, _) => *count,
+            Held::Many(count, _) => *count,
+        }
+    }
+
+    /// Counts anew.
+    #[inline]
+    pub fn set_count(&mut self, count: u8)
+        ensures { self.new ≡ stored_as self.old.items count }
+    {
+        match &mut self.held {
+            Held::Few(old, _) => *old = count,
+            Held::Many(old, _) => *old = count,
+        }
+    }
+
+    /// Puts other bytes in the place of those from `start` up to `end`. After a refusal nothing changed.
+    #[inline]
+    pub fn replace(&mut self, start: usize, end: usize, by: &[u8]) -> Result<(), NoMemory>
+        requires order { start ≤ end }
+        requires within { end ≤ length self.old.items }
+        ensures ok { OnOk result (self.new ≡ stored_as (take start self.old.items ++ (by.now ++ drop end self.old.items)) self.old.count) }
+        ensures err { OnErr result (self.new ≡ self.old) }
+    {
+        match &mut self.held {
+            Held::Few(count, short) => {
+                if by.len() <= short.room() + (end - start) {
+                    short.replace(start, end, by);
+                    return Ok(());
+                }
+                let block = lengthened(self.alloc, short.as_slice(), start, end, by)?;
+                self.held = Held::Many(*count, block);
+                Ok(())
+            }
+            Held::Many(_, block) => replace(block, start, end, by),
+        }
+    }
+
+    /// Takes out the bytes from `start` up to `end`. It takes no memory.
+    pub fn remove(&mut self, start: usize, end: usize)
+        requires order { start ≤ end }
+        requires within { end ≤ length self.old.items }
+        ensures { self.new ≡ stored_as (take start self.old.items ++ drop end self.old.items) self.old.count }
+    {
+        match &mut self.held {
+            Held::Few(_, short) => short.remove(start, end),
+            Held::Many(_, block) => narrow(block, start, end, b""),
+        }
+    }
+
+    /// Leaves the bytes from `start` up to `end` alone. It takes no memory.
+    pub fn keep(&mut self, start: usize, end: usize)
+        requires order { start ≤ end }
+        requires within { end ≤ length self.old.items }
+        ensures { self.new ≡ stored_as (slice_range self.old.items start end) self.old.count }
+    {
+        match &mut self.held {
+            Held::Few(_, short) => short.keep(start, end),
+            Held::Many(_, block) => {
+                block.truncate(end);
+                narrow(block, 0, start, b"");
+            }
+        }
+    }
+
+    /// Puts two parts in each other's place: that from `first` up to `first_end`, and that behind it from `second` up
+    /// to `second_end`.
+    pub fn swap(&mut self, first: usize, first_end: usize, second: usize, second_end: usize)
+        requires first { first ≤ first_end }
+        requires apart { first_end ≤ second }
+        requires second { second ≤ second_end }
+        requires within { second_end ≤ length self.old.items }
+        ensures { self.new ≡ stored_as (parts_swapped self.old.items first first_end second second_end) self.old.count }
+    {
+        match &mut self.held {
+            Held::Few(_, short) => short.swap(first, first_end, second, second_end),
+            Held::Many(_, block) => swap_parts(block.as_mut_slice(), first, first_end, second, second_end),
+        }
+    }
+}
+
+// A heap block of bytes of which a part is replaced.
+fn lengthened(alloc: Global, bytes: &[u8], start: usize, end: usize, by: &[u8]) -> Result<Vec<u8>, NoMemory>
+    requires order { start ≤ end }
+    requires within { end ≤ length bytes.now }
+    ensures { IfOk result (λ block. block.items ≡ take start bytes.now ++ (by.now ++ drop end bytes.now)) }
+{
+    let mut block = Vec::with_capacity(alloc, bytes.len().saturating_add(by.len()))?;
+    block.extend_from_slice(bytes)?;
+    replace(&mut block, start, end, by)?;
+    Ok(block)
+}

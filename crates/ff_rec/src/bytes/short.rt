@@ -1,0 +1,125 @@
+// A few bytes that stand in place.
+ghost use Rattle.std.specs.Prelude.{◌≡◌, ◌+◌, ◌-◌, ◌++◌, ◌≤◌, length, take, drop, slice_range};
+ghost use Rattle.ff_rec.specs.Block.{parts_swapped};
+
+use super::parts::swap_parts;
+use std::marker::Model;
+
+/// So many bytes have room in place. With their length and what stands before them they fill 48 bytes.
+pub const SHORT: usize = 39;
+
+/// At most `SHORT` bytes.
+#[derive(Debug, Drop)]
+pub struct Short {
+    // It takes no room, and aligns the bytes, so that they are moved by whole words.
+    align: [u64; 0],
+    len: u8,
+    bytes: [u8; SHORT],
+}
+
+impl Model for Short {
+    ghost use Rattle.std.specs.Prelude.{List, ℕ, ◌≤◌, take};
+
+    ghost Value = { List ℕ };
+
+    ghost view = { λ s. take s.len s.bytes };
+
+    ghost invariant = { λ s. s.len ≤ 39 };
+}
+
+impl Short {
+    /// These bytes.
+    #[inline]
+    pub fn of(bytes: &[u8]) -> Short
+        requires { length bytes.now ≤ SHORT }
+        ensures { result ≡ bytes.now }
+    {
+        let mut room = [0; SHORT];
+        room[..bytes.len()].copy_from_slice(bytes);
+        Short {
+            align: [],
+            len: bytes.len() as u8,
+            bytes: room,
+        }
+    }
+
+    /// The bytes.
+    #[inline]
+    pub fn as_slice(&self) -> &[u8]
+        ensures bytes { result.now ≡ self.now }
+        ensures few { length self.now ≤ SHORT }
+    {
+        &self.bytes[..usize::from(self.len)]
+    }
+
+    /// How many bytes more have room.
+    #[inline]
+    pub fn room(&self) -> usize
+        ensures { length self.now + result ≡ SHORT }
+    {
+        SHORT - usize::from(self.len)
+    }
+
+    /// An equal value.
+    #[inline]
+    pub fn copy(&self) -> Short
+        ensures { result ≡ self.now }
+    {
+        Short {
+            align: [],
+            len: self.len,
+            bytes: self.bytes,
+        }
+    }
+
+    /// Puts other bytes in the place of those from `start` up to `end`.
+    #[inline]
+    pub fn replace(&mut self, start: usize, end: usize, by: &[u8])
+        requires order { start ≤ end }
+        requires within { end ≤ length self.old }
+        requires room { start + length by.now + (length self.old - end) ≤ SHORT }
+        ensures { self.new ≡ take start self.old ++ (by.now ++ drop end self.old) }
+    {
+        let len = usize::from(self.len);
+        let last = start + by.len();
+        self.bytes.copy_within(end..len, last);
+        self.bytes[start..last].copy_from_slice(by);
+        self.len = (last + (len - end)) as u8;
+    }
+
+    /// Takes out the bytes from `start` up to `end`.
+    #[inline]
+    pub fn remove(&mut self, start: usize, end: usize)
+        requires order { start ≤ end }
+        requires within { end ≤ length self.old }
+        ensures { self.new ≡ take start self.old ++ drop end self.old }
+    {
+        let len = usize::from(self.len);
+        self.bytes.copy_within(end..len, start);
+        self.len = (start + (len - end)) as u8;
+    }
+
+    /// Leaves the bytes from `start` up to `end` alone.
+    #[inline]
+    pub fn keep(&mut self, start: usize, end: usize)
+        requires order { start ≤ end }
+        requires within { end ≤ length self.old }
+        ensures { self.new ≡ slice_range self.old start end }
+    {
+        self.bytes.copy_within(start..end, 0);
+        self.len = (end - start) as u8;
+    }
+
+    /// Puts two parts in each other's place: that from `first` up to `first_end`, and that behind it from `second` up
+    /// to `second_end`.
+    pub fn swap(&mut self, first: usize, first_end: usize, second: usize, second_end: usize)
+        requires first { first ≤ first_end }
+        requires apart { first_end ≤ second }
+        requires second { second ≤ second_end }
+        requires within { second_end ≤ length self.old }
+        ensures { self.new ≡ parts_swapped self.old first first_end second second_end }
+    {
+        let len = usize::from(self.len);
+        swap_parts(&mut self.bytes[..len], first, first_end, second, second_end);
+    }
+}
