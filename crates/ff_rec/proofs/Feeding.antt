@@ -21,7 +21,7 @@ pub given-refused : (l i : ℕ) (f : FeedFault) (bs : List ℕ) → given (refus
 given-refused l i f [] = refl
 given-refused l i f (b ∷ bs) = given-refused l i f bs
 
--- the same of any state with a refusal
+-- in any state with a refusal
 pub after-stays : (s : Reading) (f : FeedFault) (bs : List ℕ) → s.fault ≡ Some f → after s bs ≡ s
 after-stays s f [] is = refl
 after-stays s f (b ∷ bs) is = ap (λ (o : Option FeedFault). after (next o s b) bs) is ∙ after-stays s f bs is

@@ -60,7 +60,7 @@ pub cut-joined : (f : List ℕ) (fs : List (List ℕ)) → Lacks 9 f → AllByRe
 cut-joined f [] h hs = ap (cut 9) (append-nil f) ∙ cut-Lacks 9 f h
 cut-joined f (g ∷ gs) h hs = cut-split 9 f (g ++ behind gs) h ∙ ap (λ (ps : List (List ℕ)). f ∷ ps) (cut-joined g gs hs.0 hs.1)
 
--- the same of fields that stand before other bytes
+-- fields that stand before other bytes
 pub cut-before : (fs : List (List ℕ)) (bs : List ℕ) → AllByRecursion (Lacks 9) fs → cut 9 (before fs ++ bs) ≡ fs ++ cut 9 bs
 cut-before [] bs hs = refl
 cut-before (f ∷ fs) bs hs =

@@ -8,6 +8,7 @@ pub mod Counts
 pub mod Rising
 pub mod Joins
 pub mod Places
+pub mod Filled
 pub mod Turns
 pub mod Edits
 pub mod Swaps

@@ -8,6 +8,7 @@ use Rattle.std.proofs.Math.Seq.{take-add}
 use Rattle.ff_rec.specs.Lines.{IsPlain, IsRec, cut, tabs, behind, joined}
 use Rattle.ff_rec.specs.Pieces.{Lacks, rest_cut, whole_of}
 use Rattle.ff_rec.specs.Block.{IsBlock, IsStart, IsPlace, before}
+use Rattle.ff_rec.specs.Stored.{Stored, stored_as}
 use Rattle.ff_rec.proofs.Joins.{HasFirst-cut, behind-is, joined-cut, cut-append, cut-joined, cut-before, Lacks-cut, Lacks-IsPlain, cut-IsPlain, IsPlain-cut, length-cut}
 
 -- the first piece begins at the front
@@ -133,10 +134,10 @@ IsBlock-set b c n k f h e plain = record {
 }
 
 -- and it stays one whether memory was there or not
-pub IsBlock-put : {E : Type 0} (r : Result (Unit {0}) E) (b c : List ℕ) (n k : ℕ) (f : List ℕ) → IsBlock b n → IsPlain f
-    → OnOk r (cut 9 c ≡ set (cut 9 b) k f) → OnErr r (c ≡ b) → IsBlock c n
-IsBlock-put (Ok u) b c n k f h plain ok err = IsBlock-set b c n k f h ok plain
-IsBlock-put (Err e) b c n k f h plain ok err = subst (λ (q : List ℕ). IsBlock q n) (sym err) h
+pub IsBlock-put : {E : Type 0} (r : Result (Unit {0}) E) (b c : Stored) (bytes : List ℕ) (k : ℕ) (f : List ℕ) → IsBlock b.items b.count → IsPlain f
+    → cut 9 bytes ≡ set (cut 9 b.items) k f → OnOk r (c ≡ stored_as bytes b.count) → OnErr r (c ≡ b) → IsBlock c.items c.count
+IsBlock-put (Ok u) b c bytes k f h plain e ok err = subst (λ (q : Stored). IsBlock q.items q.count) (sym ok) (IsBlock-set b.items bytes b.count k f h e plain)
+IsBlock-put (Err e) b c bytes k f h plain is ok err = subst (λ (q : Stored). IsBlock q.items q.count) (sym err) h
 
 -- plain bytes behind a tab are a last piece
 pub cut-pushed : (b f : List ℕ) → IsPlain f → cut 9 (b ++ 9 ∷ f) ≡ cut 9 b ++ f ∷ []

@@ -34,7 +34,7 @@ number-decimal n small =
     number-digits (decimal n) digits (decimal_nonempty n fits)
     ∙ positive-value (decimal n) n digits (decimal_nonempty n fits) (digits_value-decimal numeral_words n fits) small
 
--- the same below zero
+-- below zero
 number-minus_decimal : (n : ℕ) → n < 2 ^ 63 → number (45 ∷ decimal (suc n)) ≡ Some (negsuc n)
 number-minus_decimal n small =
     let fits : suc n < 2 ^ 64 = omega arith in

@@ -90,7 +90,7 @@ put_content-Contains content (first ∷ others) c = by (slice_cmp nat_cmp conten
       ],
     )
 
--- the same of what may not be there
+-- of a content that may not be there
 put_if_there-rising : (o : Option (List ℕ)) (cs : List (List ℕ)) → IsRising cs → IsRising (put_if_there o cs)
 put_if_there-rising None cs rising = rising
 put_if_there-rising (Some content) cs rising = put_content-rising content cs rising

@@ -11,7 +11,8 @@ use Rattle.ff_rec.specs.declared.line_reader.progress.Progress.{Progress}
 use Rattle.ff_rec.specs.Lines.{Rec, cut}
 use Rattle.ff_rec.specs.Pieces.{Lacks}
 use Rattle.ff_rec.specs.Progress.{IsReady, KeepsPart, EndsLine, IsLineFault, reading_of, state_of, left_by}
-use Rattle.ff_rec.specs.Reading.{Reading, reading, refused, line_fault, after, given, after-append, given-append, UnlessMemory}
+use Rattle.ff_rec.specs.Reading.{Reading, reading, refused, line_fault, after, given, UnlessMemory}
+use Rattle.ff_rec.specs.ReadingLaws.{after-append, given-append}
 use Rattle.ff_rec.proofs.LineLimits.{line_fault-within, take-min}
 use Rattle.ff_rec.proofs.Feeding.{after-refused, given-refused, byte_fault-full, after-fault, given-fault, Does, Does-fault, Does-last, Does-last_fault, HasRead, HasRead-line, HasRead-all}
 
@@ -99,17 +100,13 @@ after-full m q (c ∷ cs) full some =
 pub first-all : (old now rs : List Rec) → now ≡ old ++ rs → (n : ℕ) × (now ≡ old ++ take n rs)
 first-all old now rs is = (length rs, is ∙ ap (λ (l : List Rec). old ++ l) (sym (take_all (length rs) rs (omega arith))))
 
--- a piece of which the front was read
-module _ (s : Reading) (xs ys piece : List ℕ) (whole : xs ++ ys ≡ piece) (old now : List Rec) where
-  -- a first part of what the front gives is one of what the piece gives
-  pub front-first : (n : ℕ) × (now ≡ old ++ take n (given s xs)) → (n : ℕ) × (now ≡ old ++ take n (given s piece))
-  front-first h =
-      let k = min (length (given s xs)) h.0 in
-      let e : take k (given s piece) ≡ take h.0 (given s xs) =
-      ap (λ (bs : List ℕ). take k (given s bs)) (sym whole) ∙ ap (take k) (given-append s xs ys)
-      ∙ take-append-le k (given s xs) (given (after s xs) ys) (omega arith) ∙ take-min h.0 (given s xs) in
-      (k, h.1 ∙ ap (λ (l : List Rec). old ++ l) (sym e))
+-- a fact holds where it holds of every answer
+pub UnlessMemory-err : (f : FeedFault) (fact : Type 0) → fact → UnlessMemory (Err f) fact
+UnlessMemory-err (Line f) fact h = h
+UnlessMemory-err NoMemory fact h = tt
 
+-- a piece of which the front was read
+module _ (s : Reading) (xs ys piece : List ℕ) (whole : xs ++ ys ≡ piece) where
   -- what refuses the front refuses the piece
   pub front-state : (m : Limits) (q : Progress) (f : FeedFault) → UnlessMemory (Err f) (left_by (Err f) m q ≡ after s xs)
       → UnlessMemory (Err f) (left_by (Err f) m q ≡ after s piece)
@@ -117,19 +114,47 @@ module _ (s : Reading) (xs ys piece : List ℕ) (whole : xs ++ ys ≡ piece) (ol
       sym (ap (after s) (sym whole) ∙ after-append s xs ys ∙ ap (λ (r : Reading). after r ys) (sym h) ∙ after-refused m.line m.input (Line f) ys)
   front-state m q NoMemory h = tt
 
-  pub front-records : (m : Limits) (q : Progress) (f : FeedFault) → UnlessMemory (Err f) (left_by (Err f) m q ≡ after s xs)
-      → UnlessMemory (Err f) (now ≡ old ++ given s xs) → UnlessMemory (Err f) (now ≡ old ++ given s piece)
-  front-records m q (Line f) h g =
-      let none : given (after s xs) ys ≡ [] = ap (λ (r : Reading). given r ys) (sym h) ∙ given-refused m.line m.input (Line f) ys in
-      g ∙ ap (λ (l : List Rec). old ++ l) (sym (ap (given s) (sym whole) ∙ given-append s xs ys ∙ ap (λ (l : List Rec). given s xs ++ l) none ∙ append-nil (given s xs)))
-  front-records m q NoMemory h g = tt
-
   -- behind the front stands more than there is room for
-  module _ (m : Limits) (q : Progress) (read : reading_of m q ≡ after s xs) (full : m.input ≤ q.taken) (some : 1 ≤ length ys) where
-    pub full-state : refused m.line m.input (Line InputTooLong) ≡ after s piece
-    full-state = sym (ap (after s) (sym whole) ∙ after-append s xs ys ∙ ap (λ (r : Reading). after r ys) (sym read) ∙ (after-full m q ys full some).state)
+  pub full-state : (m : Limits) (q : Progress) → reading_of m q ≡ after s xs → m.input ≤ q.taken → 1 ≤ length ys
+      → refused m.line m.input (Line InputTooLong) ≡ after s piece
+  full-state m q read full some =
+      sym (ap (after s) (sym whole) ∙ after-append s xs ys ∙ ap (λ (r : Reading). after r ys) (sym read) ∙ (after-full m q ys full some).state)
 
-    pub full-records : now ≡ old ++ given s xs → now ≡ old ++ given s piece
-    full-records g =
-        let none : given (after s xs) ys ≡ [] = ap (λ (r : Reading). given r ys) (sym read) ∙ (after-full m q ys full some).records in
+  -- the records that were appended
+  module _ (old now : List Rec) where
+    -- a first part of what the front gives is one of what the piece gives
+    pub front-first : (n : ℕ) × (now ≡ old ++ take n (given s xs)) → (n : ℕ) × (now ≡ old ++ take n (given s piece))
+    front-first h =
+        let k = min (length (given s xs)) h.0 in
+        let e : take k (given s piece) ≡ take h.0 (given s xs) =
+        ap (λ (bs : List ℕ). take k (given s bs)) (sym whole) ∙ ap (take k) (given-append s xs ys)
+        ∙ take-append-le k (given s xs) (given (after s xs) ys) (omega arith) ∙ take-min h.0 (given s xs) in
+        (k, h.1 ∙ ap (λ (l : List Rec). old ++ l) (sym e))
+
+    -- what stands behind the front gives none
+    none_behind : given (after s xs) ys ≡ [] → now ≡ old ++ given s xs → now ≡ old ++ given s piece
+    none_behind none g =
         g ∙ ap (λ (l : List Rec). old ++ l) (sym (ap (given s) (sym whole) ∙ given-append s xs ys ∙ ap (λ (l : List Rec). given s xs ++ l) none ∙ append-nil (given s xs)))
+
+    pub front-records : (m : Limits) (q : Progress) (f : FeedFault) → UnlessMemory (Err f) (left_by (Err f) m q ≡ after s xs)
+        → UnlessMemory (Err f) (now ≡ old ++ given s xs) → UnlessMemory (Err f) (now ≡ old ++ given s piece)
+    front-records m q (Line f) h g = none_behind (ap (λ (r : Reading). given r ys) (sym h) ∙ given-refused m.line m.input (Line f) ys) g
+    front-records m q NoMemory h g = tt
+
+    pub full-records : (m : Limits) (q : Progress) → reading_of m q ≡ after s xs → m.input ≤ q.taken → 1 ≤ length ys
+        → now ≡ old ++ given s xs → now ≡ old ++ given s piece
+    full-records m q read full some g = none_behind (ap (λ (r : Reading). given r ys) (sym read) ∙ (after-full m q ys full some).records) g
+
+-- what a loop over the lines of a piece has passed: no records are made of those that were due
+pub record HasPassed (s : Reading) (piece : List ℕ) (now_s : Reading) (left : List ℕ) : Type 0 where
+  pub due : List Rec
+  pub read : HasRead s piece [] now_s left due
+
+pub HasPassed-nothing : (s : Reading) (piece : List ℕ) → HasPassed s piece s piece
+HasPassed-nothing s piece = record { due = []; read = HasRead-nothing s piece [] }
+
+pub HasPassed-EndsLine : (s : Reading) (piece : List ℕ) (m : Limits) (p q : Progress) (part rest left : List ℕ)
+    → HasPassed s piece (reading_of m p) left → left ≡ part ++ 10 ∷ rest → Lacks 10 part → EndsLine m p q part → HasPassed s piece (reading_of m q) rest
+HasPassed-EndsLine s piece m p q part rest left h is clean e =
+    let more = h.due ++ cut 9 (p.line.items ++ part) ∷ [] in
+    record { due = more; read = HasRead-EndsLine s piece [] h.due more m p q part rest left h.read is clean e refl }

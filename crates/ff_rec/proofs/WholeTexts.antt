@@ -57,7 +57,7 @@ record IsCutFrom (o : Option LineFault) (l i t n : ℕ) (line b : List ℕ) : Ty
   going : given (reading l i t n line) b ≡ seen_from o false (i - t) n line b
   at_end : given (reading l i t n line) b ++ last_given (after (reading l i t n line) b).line ≡ seen_from o true (i - t) n line b
 
--- the same, by the first limit, of a byte and those behind it
+-- by the first limit, of a byte and those behind it
 abbrev CutHere : ℕ → ℕ → ℕ → ℕ → List ℕ → ℕ → List ℕ → Type 0
 CutHere l i t n line b cs = IsCutFrom (first_limit l i t n line (b ∷ cs)) l i t n line (b ∷ cs)
 

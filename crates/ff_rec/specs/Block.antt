@@ -28,6 +28,10 @@ pub record IsPlace (block : List ℕ) (k start end : ℕ) : Type 0 where
   pub front : take start block ≡ before (take k (cut 9 block))
   pub back : drop end block ≡ behind (drop (suc k) (cut 9 block))
 
+-- the bytes with others in the place of those from `start` up to `end`
+abbrev pub replaced : List ℕ → ℕ → ℕ → List ℕ → List ℕ
+replaced bytes start end by = take start bytes ++ (by ++ drop end bytes)
+
 -- the bytes with the part from `first` up to `first_end` and that from `second` up to `second_end` in each other's place
 abbrev pub parts_swapped : List ℕ → ℕ → ℕ → ℕ → ℕ → List ℕ
 parts_swapped bytes first first_end second second_end =

@@ -49,7 +49,7 @@ abbrev pub put_content : List ℕ → List (List ℕ) → List (List ℕ)
 put_content content [] = content ∷ []
 put_content content (first ∷ others) = put_by (slice_cmp nat_cmp content first) content first others (put_content content others)
 
--- the same of what may not be there
+-- a content put into a rising list of contents, where it is there
 abbrev pub put_if_there : Option (List ℕ) → List (List ℕ) → List (List ℕ)
 put_if_there None contents = contents
 put_if_there (Some content) contents = put_content content contents

@@ -16,3 +16,5 @@ pub mod Streams
 pub mod Reading
 pub mod Limits
 pub mod Progress
+-- lemmas: nothing to trust
+pub mod ReadingLaws

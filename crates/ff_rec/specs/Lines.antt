@@ -60,7 +60,7 @@ whole_lines bytes = without_last (cut 10 bytes)
 abbrev pub records : List ℕ → List Rec
 records bytes = map (cut 9) (lines bytes)
 
--- the same without a last line that has no newline
+-- the records of the lines that end in a newline
 abbrev pub whole : List ℕ → List Rec
 whole bytes = map (cut 9) (whole_lines bytes)
 

@@ -22,12 +22,12 @@ pub record IsReady (m : Limits) (p : Progress) : Type 0 where
 abbrev pub reading_of : Limits → Progress → Reading
 reading_of m p = reading m.line m.input p.taken p.ended p.line.items
 
--- the same, by the refusal, if one came
+-- the state by the refusal, if one came
 abbrev pub state_of : Option FeedFault → Limits → Progress → Reading
 state_of None m p = reading_of m p
 state_of (Some f) m p = refused m.line m.input f
 
--- the same, by the answer
+-- the state by the answer
 abbrev pub left_by : Result (Unit {0}) FeedFault → Limits → Progress → Reading
 left_by (Ok done) m p = reading_of m p
 left_by (Err f) m p = refused m.line m.input f

@@ -1,6 +1,5 @@
 -- A text that comes in pieces, read byte by byte: how far it was read, the records that it gave, and the limit that it passed.
-use Rattle.std.specs.Prelude.{◌≡◌, ℕ, ◌+◌, ◌==◌, nat_lt, nat_le, if◌then◌else◌, List, [], ◌∷◌, ◌++◌, length, take, Option, None, Some, Result, Ok, Err, refl}
-use Rattle.std.proofs.Common.{sym, ap, ◌∙◌, append_assoc}
+use Rattle.std.specs.Prelude.{◌≡◌, ℕ, ◌+◌, ◌==◌, nat_lt, nat_le, if◌then◌else◌, List, [], ◌∷◌, ◌++◌, length, take, Option, None, Some, Result, Ok, Err}
 use Rattle.ff_rec.specs.declared.fault.LineFault.{LineFault}
 use Rattle.ff_rec.specs.declared.fault.LineFault.TheVariants.{TooLong, TooManyFields, InputTooLong}
 use Rattle.ff_rec.specs.declared.fault.FeedFault.{FeedFault}
@@ -44,7 +43,7 @@ moved None s c =
     else reading s.line_limit s.input_limit (s.taken + 1) s.ended (s.line ++ c ∷ [])
 moved (Some f) s c = refused s.line_limit s.input_limit (Line f)
 
--- the same, unless there was a refusal before
+-- the state behind a byte, which after a refusal is as before
 abbrev pub next : Option FeedFault → Reading → ℕ → Reading
 next None s c = moved (byte_fault s c) s c
 next (Some f) s c = s
@@ -54,7 +53,7 @@ abbrev pub ends : Option LineFault → Reading → ℕ → List Rec
 ends None s c = if c == 10 then cut 9 s.line ∷ [] else []
 ends (Some f) s c = []
 
--- the same, unless there was a refusal before
+-- the record that a byte ends, and none after a refusal
 abbrev pub gives : Option FeedFault → Reading → ℕ → List Rec
 gives None s c = ends (byte_fault s c) s c
 gives (Some f) s c = []
@@ -84,14 +83,3 @@ abbrev pub UnlessMemory : Result (Unit {0}) FeedFault → Type 0 → Type 0
 UnlessMemory (Ok done) fact = fact
 UnlessMemory (Err (Line f)) fact = fact
 UnlessMemory (Err NoMemory) fact = Unit {0}
-
--- however a text is cut into pieces, what is read is the same
-pub after-append : (s : Reading) (xs ys : List ℕ) → after s (xs ++ ys) ≡ after (after s xs) ys
-after-append s [] ys = refl
-after-append s (x ∷ xs) ys = after-append (next s.fault s x) xs ys
-
-pub given-append : (s : Reading) (xs ys : List ℕ) → given s (xs ++ ys) ≡ given s xs ++ given (after s xs) ys
-given-append s [] ys = refl
-given-append s (x ∷ xs) ys =
-    ap (λ (rs : List Rec). gives s.fault s x ++ rs) (given-append (next s.fault s x) xs ys)
-    ∙ sym (append_assoc (gives s.fault s x) (given (next s.fault s x) xs) (given (after (next s.fault s x) xs) ys))

@@ -37,7 +37,7 @@ fn start_of(block: &[u8], k: usize) -> usize
     start
 }
 
-/// Where field `k`, counted from 0, begins and ends.
+// Where field `k`, counted from 0, begins and ends.
 fn place_in(block: &Bytes, k: usize) -> (usize, usize)
     requires count { block.now.count ≡ length (cut 9 block.now.items) }
     requires there { k < length (cut 9 block.now.items) }
@@ -53,7 +53,8 @@ pub fn put(block: &mut Bytes, k: usize, by: &[u8]) -> Result<(), NoMemory>
     requires plain { IsPlain by.now }
     ensures ok { OnOk result (cut 9 block.new.items ≡ slice_set (cut 9 block.old.items) k by.now) }
     ensures err { OnErr result (block.new ≡ block.old) }
-    ensures kept { IsBlock block.old.items block.old.count → IsBlock block.new.items block.new.count }
+    ensures kept { IsBlock block.old.items block.old.count
+        → IsBlock block.new.items block.new.count }
 {
     let (start, end) = place_in(block, k);
     block.replace(start, end, by)
@@ -61,7 +62,8 @@ pub fn put(block: &mut Bytes, k: usize, by: &[u8]) -> Result<(), NoMemory>
 
 /// Adds a field behind a tab. After a refusal the block is unchanged.
 pub fn push_field(block: &mut Bytes, field: &[u8]) -> Result<(), NoMemory>
-    ensures ok { OnOk result (block.new ≡ stored_as (block.old.items ++ 9 ∷ field.now) block.old.count) }
+    ensures ok { OnOk result (block.new
+        ≡ stored_as (block.old.items ++ 9 ∷ field.now) block.old.count) }
     ensures err { OnErr result (block.new ≡ block.old) }
 {
     let len = block.as_slice().len();
@@ -77,7 +79,8 @@ pub fn push_field(block: &mut Bytes, field: &[u8]) -> Result<(), NoMemory>
 
 /// Puts a field and a tab before all others. After a refusal the block is unchanged.
 pub fn push_front(block: &mut Bytes, field: &[u8]) -> Result<(), NoMemory>
-    ensures ok { OnOk result (block.new ≡ stored_as (field.now ++ 9 ∷ block.old.items) block.old.count) }
+    ensures ok { OnOk result (block.new
+        ≡ stored_as (field.now ++ 9 ∷ block.old.items) block.old.count) }
     ensures err { OnErr result (block.new ≡ block.old) }
 {
     block.replace(0, 0, b"\t")?;

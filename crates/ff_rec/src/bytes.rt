@@ -1,6 +1,6 @@
 // The bytes of a record and the number of its fields: in place where the bytes are few, else in one heap block.
 ghost use Rattle.std.specs.Prelude.{◌≡◌, ◌++◌, ◌≤◌, length, take, drop, slice_range, IfOk, OnOk, OnErr};
-ghost use Rattle.ff_rec.specs.Block.{parts_swapped};
+ghost use Rattle.ff_rec.specs.Block.{parts_swapped, replaced};
 ghost use Rattle.ff_rec.specs.Stored.{stored_as};
 
 mod long;
@@ -8,9 +8,10 @@ mod parts;
 mod short;
 
 use crate::NoMemory;
-use long::{narrow, replace};
+use long::{keep, narrow, replace};
 use parts::swap_parts;
-use short::{SHORT, Short};
+pub use short::SHORT;
+use short::Short;
 use std::alloc::Global;
 use std::marker::Model;
 
@@ -111,7 +112,8 @@ impl Bytes {
     pub fn replace(&mut self, start: usize, end: usize, by: &[u8]) -> Result<(), NoMemory>
         requires order { start ≤ end }
         requires within { end ≤ length self.old.items }
-        ensures ok { OnOk result (self.new ≡ stored_as (take start self.old.items ++ (by.now ++ drop end self.old.items)) self.old.count) }
+        ensures ok { OnOk result (self.new
+            ≡ stored_as (replaced self.old.items start end by.now) self.old.count) }
         ensures err { OnErr result (self.new ≡ self.old) }
     {
         match &mut self.held {
@@ -132,7 +134,8 @@ impl Bytes {
     pub fn remove(&mut self, start: usize, end: usize)
         requires order { start ≤ end }
         requires within { end ≤ length self.old.items }
-        ensures { self.new ≡ stored_as (take start self.old.items ++ drop end self.old.items) self.old.count }
+        ensures { self.new
+            ≡ stored_as (take start self.old.items ++ drop end self.old.items) self.old.count }
     {
         match &mut self.held {
             Held::Few(_, short) => short.remove(start, end),
@@ -148,9 +151,12 @@ impl Bytes {
     {
         match &mut self.held {
             Held::Few(_, short) => short.keep(start, end),
-            Held::Many(_, block) => {
-                block.truncate(end);
-                narrow(block, 0, start, b"");
+            Held::Many(count, block) => {
+                if end - start <= SHORT {
+                    self.held = Held::Few(*count, Short::of(&block.as_slice()[start..end]));
+                } else {
+                    keep(block, start, end);
+                }
             }
         }
     }
@@ -162,20 +168,34 @@ impl Bytes {
         requires apart { first_end ≤ second }
         requires second { second ≤ second_end }
         requires within { second_end ≤ length self.old.items }
-        ensures { self.new ≡ stored_as (parts_swapped self.old.items first first_end second second_end) self.old.count }
+        ensures { self.new
+            ≡ stored_as (parts_swapped self.old.items first first_end second second_end)
+            self.old.count }
     {
         match &mut self.held {
             Held::Few(_, short) => short.swap(first, first_end, second, second_end),
-            Held::Many(_, block) => swap_parts(block.as_mut_slice(), first, first_end, second, second_end),
+            Held::Many(_, block) => swap_parts(
+                block.as_mut_slice(),
+                first,
+                first_end,
+                second,
+                second_end,
+            ),
         }
     }
 }
 
 // A heap block of bytes of which a part is replaced.
-fn lengthened(alloc: Global, bytes: &[u8], start: usize, end: usize, by: &[u8]) -> Result<Vec<u8>, NoMemory>
+fn lengthened(
+    alloc: Global,
+    bytes: &[u8],
+    start: usize,
+    end: usize,
+    by: &[u8],
+) -> Result<Vec<u8>, NoMemory>
     requires order { start ≤ end }
     requires within { end ≤ length bytes.now }
-    ensures { IfOk result (λ block. block.items ≡ take start bytes.now ++ (by.now ++ drop end bytes.now)) }
+    ensures { IfOk result (λ block. block.items ≡ replaced bytes.now start end by.now) }
 {
     let mut block = Vec::with_capacity(alloc, bytes.len().saturating_add(by.len()))?;
     block.extend_from_slice(bytes)?;

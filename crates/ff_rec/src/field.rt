@@ -53,6 +53,7 @@ impl Field {
         })
     }
 
+    /// Its bytes.
     pub fn bytes(&self) -> &[u8]
         ensures bytes { result.now ≡ self.now }
         ensures plain { IsPlain result.now }

@@ -7,6 +7,7 @@ mod cmp;
 mod fault;
 mod field;
 mod laws;
+mod limits;
 mod line_reader;
 mod msg;
 mod number;
@@ -22,9 +23,10 @@ pub use laws::{
     a_text_within_its_limits_passes_none, contents_rise_and_are_what_occurs,
     printed_numbers_are_read, reading_is_cutting, same_is_each_record_as_often,
 };
+pub use limits::{LONGEST_INPUT, LONGEST_LINE_ONE, LONGEST_LINE_TWO, LONGEST_TEXT, MOST_FIELDS};
 pub use line_reader::LineReader;
 pub use msg::Msg;
 pub use number::{print_number, read_number};
 pub use pieces::split;
-pub use record::{MOST_FIELDS, Record, print_record};
+pub use record::{Record, print_record};
 pub use records::{Records, copies};

@@ -3,6 +3,7 @@ ghost use Rattle.std.specs.Prelude.{◌≡◌, ℕ, ◌+◌, ◌≤◌, ◌++◌
 ghost use Rattle.ff_rec.specs.Reading.{opening, after, given, last_given, answer_of, UnlessMemory};
 
 mod line;
+mod passing;
 mod progress;
 mod steps;
 #[cfg(test)]
@@ -10,6 +11,7 @@ mod tests;
 
 use crate::{FeedFault, NoMemory, Record};
 use line::push_line;
+use passing::pass;
 use progress::{Limits, Progress};
 use std::alloc::Global;
 use std::marker::Model;
@@ -64,17 +66,41 @@ impl LineReader {
     pub fn feed(&mut self, piece: &[u8], into: &mut Vec<Record>) -> Result<(), FeedFault>
         ensures answer { result ≡ answer_of self.new.fault }
         ensures state { UnlessMemory result (self.new ≡ after self.old piece.now) }
-        ensures records { UnlessMemory result (into.new.items ≡ into.old.items ++ given self.old piece.now) }
-        ensures first { (n : ℕ) × (into.new.items ≡ into.old.items ++ take n (given self.old piece.now)) }
-        ensures refused { OnSome self.old.fault ((self.new ≡ self.old) × (into.new.items ≡ into.old.items)) }
+        ensures records { UnlessMemory result (into.new.items
+            ≡ into.old.items ++ given self.old piece.now) }
+        ensures first { (n : ℕ)
+            × (into.new.items ≡ into.old.items ++ take n (given self.old piece.now)) }
+        ensures refused { OnSome self.old.fault
+            ((self.new ≡ self.old) × (into.new.items ≡ into.old.items)) }
         ensures taken { OnOk result (self.new.taken ≡ self.old.taken + length piece.now) }
         ensures room { OnOk result (self.new.taken ≤ self.old.input_limit) }
-        ensures limits { (self.new.line_limit ≡ self.old.line_limit) × (self.new.input_limit ≡ self.old.input_limit) }
+        ensures limits { (self.new.line_limit ≡ self.old.line_limit)
+            × (self.new.input_limit ≡ self.old.input_limit) }
     {
         if let Some(fault) = self.fault {
             return Err(fault);
         }
         let answer = read(self.limits, &mut self.progress, piece, into);
+        if let Err(fault) = answer {
+            self.fault = Some(fault);
+        }
+        answer
+    }
+
+    /// Reads a piece for its limits alone: it leaves and answers what `feed` does, and makes no record.
+    pub fn pass_over(&mut self, piece: &[u8]) -> Result<(), FeedFault>
+        ensures answer { result ≡ answer_of self.new.fault }
+        ensures state { UnlessMemory result (self.new ≡ after self.old piece.now) }
+        ensures refused { OnSome self.old.fault (self.new ≡ self.old) }
+        ensures taken { OnOk result (self.new.taken ≡ self.old.taken + length piece.now) }
+        ensures room { OnOk result (self.new.taken ≤ self.old.input_limit) }
+        ensures limits { (self.new.line_limit ≡ self.old.line_limit)
+            × (self.new.input_limit ≡ self.old.input_limit) }
+    {
+        if let Some(fault) = self.fault {
+            return Err(fault);
+        }
+        let answer = pass(self.limits, &mut self.progress, piece);
         if let Err(fault) = answer {
             self.fault = Some(fault);
         }

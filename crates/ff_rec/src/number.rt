@@ -26,7 +26,7 @@ pub fn read_number(bytes: &[u8]) -> Option<i64>
     }
 }
 
-// The same for any length. It takes three times as long.
+// The number that bytes of any length are. It takes three times as long.
 fn parse_number(bytes: &[u8]) -> Option<i64>
     ensures { result ≡ number bytes.now }
 {

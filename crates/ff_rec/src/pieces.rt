@@ -13,7 +13,8 @@ pub fn split(bytes: &[u8], separator: u8) -> (&[u8], Option<&[u8]>)
     ensures pieces { cut separator bytes.now ≡ result.0.now ∷ rest_cut separator result.1 }
     ensures whole { bytes.now ≡ whole_of separator result.0.now result.1 }
     ensures clean { Lacks separator result.0.now }
-    ensures shorter { MatchOption result.1 (length result.0.now ≡ length bytes.now) (λ rest. length result.0.now + length rest.now < length bytes.now) }
+    ensures shorter { MatchOption result.1 (length result.0.now ≡ length bytes.now)
+        (λ rest. length result.0.now + length rest.now < length bytes.now) }
 {
     match memchr(separator, bytes) {
         None => (bytes, None),

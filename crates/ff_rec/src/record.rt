@@ -14,13 +14,10 @@ mod tests;
 use crate::block::{place, push_field, put};
 use crate::bytes::Bytes;
 use crate::tabs::count_tabs;
-use crate::{CutFault, Field, Kept, NoMemory, PushFault, read_number};
+use crate::{CutFault, Field, Kept, MOST_FIELDS, NoMemory, PushFault, read_number};
 use itoa::Buffer;
 use std::alloc::Global;
 use std::marker::Model;
-
-/// The most fields that a record has.
-pub const MOST_FIELDS: usize = 64;
 
 /// 1 to 64 fields, numbered from 1.
 #[derive(Debug, Drop)]
@@ -87,7 +84,8 @@ impl Record {
 
     /// The bytes of field `k`, counted from 1.
     pub fn field(&self, k: usize) -> Option<&[u8]>
-        ensures field { MatchOption result (field_at k self.now ≡ None) (λ bytes. field_at k self.now ≡ Some bytes.now) }
+        ensures field { MatchOption result (field_at k self.now ≡ None)
+            (λ bytes. field_at k self.now ≡ Some bytes.now) }
         ensures plain { IfSome result (λ bytes. IsPlain bytes.now) }
     {
         let count = usize::from(self.block.count());

@@ -2,6 +2,9 @@
 ghost use Rattle.std.specs.Prelude.{◌≡◌, ◌↔◌, ◌≤◌, [], ◌∷◌, ◌++◌, None, length, slice_get, IsTrue, OnOk, OnErr, MatchOption, Some, IfOk};
 ghost use Rattle.ff_rec.specs.Records.{TakesFirst};
 
+#[cfg(test)]
+mod tests;
+
 use crate::{Kept, NoMemory, Record};
 use std::alloc::Global;
 use std::collections::VecDeque;
@@ -48,6 +51,7 @@ impl Records {
         self.list.len()
     }
 
+    /// Whether there is none.
     pub fn is_empty(&self) -> bool
         ensures { IsTrue result ↔ (self.now ≡ []) }
     {
@@ -56,7 +60,8 @@ impl Records {
 
     /// Record `k`, counted from 0.
     pub fn get(&self, k: usize) -> Option<&Record>
-        ensures { MatchOption result (length self.now ≤ k) (λ r. slice_get self.now k ≡ Some r.now) }
+        ensures { MatchOption result (length self.now ≤ k)
+            (λ r. slice_get self.now k ≡ Some r.now) }
     {
         self.list.get(k)
     }
@@ -77,7 +82,7 @@ impl Kept for Records {
     }
 }
 
-/// The same records in the same order, in memory of their own.
+/// These records in their order, in memory of their own.
 pub fn copies(list: &VecDeque<Record>) -> Result<VecDeque<Record>, NoMemory>
     ensures { IfOk result (λ other. other.items ≡ list.now.items) }
 {

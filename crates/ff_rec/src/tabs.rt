@@ -20,7 +20,7 @@ pub fn count_tabs(line: &[u8]) -> usize
     count
 }
 
-// The same where a byte holds the count.
+// How many tabs stand in a part that is short enough for its count to be a byte.
 fn count_few(part: &[u8]) -> u8
     requires { length part.now ≤ PART }
     ensures count { result ≡ tabs part.now }

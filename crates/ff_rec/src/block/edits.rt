@@ -16,7 +16,8 @@ pub fn take_out(block: &mut Bytes, k: usize)
     ensures count { block.new.count ≡ block.old.count }
 {
     let (start, end) = place_in(block, k);
-    if end < block.as_slice().len() {
+    let len = block.as_slice().len();
+    if end < len {
         block.remove(start, end + 1);
     } else {
         block.remove(start - 1, end);

@@ -1,5 +1,6 @@
 // Many bytes, in one heap block.
-ghost use Rattle.std.specs.Prelude.{◌≡◌, ◌+◌, ◌++◌, ◌<◌, ◌≤◌, length, take, drop, OnOk, OnErr};
+ghost use Rattle.std.specs.Prelude.{◌≡◌, ◌+◌, ◌++◌, ◌<◌, ◌≤◌, length, take, drop, slice_range, OnOk, OnErr};
+ghost use Rattle.ff_rec.specs.Block.{replaced};
 
 use crate::NoMemory;
 
@@ -7,7 +8,7 @@ use crate::NoMemory;
 pub fn replace(block: &mut Vec<u8>, start: usize, end: usize, by: &[u8]) -> Result<(), NoMemory>
     requires order { start ≤ end }
     requires within { end ≤ length block.old.items }
-    ensures ok { OnOk result (block.new.items ≡ take start block.old.items ++ (by.now ++ drop end block.old.items)) }
+    ensures ok { OnOk result (block.new.items ≡ replaced block.old.items start end by.now) }
     ensures err { OnErr result (block.new.items ≡ block.old.items) }
 {
     if by.len() <= end - start {
@@ -21,7 +22,7 @@ pub fn replace(block: &mut Vec<u8>, start: usize, end: usize, by: &[u8]) -> Resu
 pub fn narrow(block: &mut Vec<u8>, start: usize, end: usize, by: &[u8])
     requires fewer { start + length by.now ≤ end }
     requires within { end ≤ length block.old.items }
-    ensures { block.new.items ≡ take start block.old.items ++ (by.now ++ drop end block.old.items) }
+    ensures { block.new.items ≡ replaced block.old.items start end by.now }
 {
     let last = start + by.len();
     block.copy_within(end.., last);
@@ -34,7 +35,7 @@ fn widen(block: &mut Vec<u8>, start: usize, end: usize, by: &[u8]) -> Result<(),
     requires order { start ≤ end }
     requires within { end ≤ length block.old.items }
     requires more { end < start + length by.now }
-    ensures ok { OnOk result (block.new.items ≡ take start block.old.items ++ (by.now ++ drop end block.old.items)) }
+    ensures ok { OnOk result (block.new.items ≡ replaced block.old.items start end by.now) }
     ensures err { OnErr result (block.new.items ≡ block.old.items) }
 {
     let len = block.len();
@@ -44,4 +45,14 @@ fn widen(block: &mut Vec<u8>, start: usize, end: usize, by: &[u8]) -> Result<(),
     block.copy_within(end..len, end + more.len());
     block[start..start + by.len()].copy_from_slice(by);
     Ok(())
+}
+
+/// Leaves the bytes from `start` up to `end` alone. It takes no memory.
+pub fn keep(block: &mut Vec<u8>, start: usize, end: usize)
+    requires order { start ≤ end }
+    requires within { end ≤ length block.old.items }
+    ensures { block.new.items ≡ slice_range block.old.items start end }
+{
+    block.truncate(end);
+    narrow(block, 0, start, b"");
 }

@@ -3,7 +3,13 @@ ghost use Rattle.std.specs.Prelude.{◌≡◌, ◌++◌, ◌≤◌, length, take
 ghost use Rattle.ff_rec.specs.Block.{parts_swapped};
 
 /// Puts the bytes from `first` up to `first_end` and those from `second` up to `second_end` in each other's place.
-pub fn swap_parts(bytes: &mut [u8], first: usize, first_end: usize, second: usize, second_end: usize)
+pub fn swap_parts(
+    bytes: &mut [u8],
+    first: usize,
+    first_end: usize,
+    second: usize,
+    second_end: usize,
+)
     requires first { first ≤ first_end }
     requires apart { first_end ≤ second }
     requires second { second ≤ second_end }
@@ -21,7 +27,8 @@ pub fn swap_parts(bytes: &mut [u8], first: usize, first_end: usize, second: usiz
 fn turn(bytes: &mut [u8], left: usize, right: usize)
     requires order { left ≤ right }
     requires within { right ≤ length bytes.old }
-    ensures { bytes.new ≡ drop right bytes.old ++ (slice_range bytes.old left right ++ take left bytes.old) }
+    ensures { bytes.new
+        ≡ drop right bytes.old ++ (slice_range bytes.old left right ++ take left bytes.old) }
 {
     bytes.rotate_left(right);
     let behind = bytes.len() - right;

@@ -1,6 +1,6 @@
 // A few bytes that stand in place.
 ghost use Rattle.std.specs.Prelude.{◌≡◌, ◌+◌, ◌-◌, ◌++◌, ◌≤◌, length, take, drop, slice_range};
-ghost use Rattle.ff_rec.specs.Block.{parts_swapped};
+ghost use Rattle.ff_rec.specs.Block.{parts_swapped, replaced};
 
 use super::parts::swap_parts;
 use std::marker::Model;
@@ -78,7 +78,7 @@ impl Short {
         requires order { start ≤ end }
         requires within { end ≤ length self.old }
         requires room { start + length by.now + (length self.old - end) ≤ SHORT }
-        ensures { self.new ≡ take start self.old ++ (by.now ++ drop end self.old) }
+        ensures { self.new ≡ replaced self.old start end by.now }
     {
         let len = usize::from(self.len);
         let last = start + by.len();

@@ -6,9 +6,8 @@ ghost use Rattle.ff_rec.specs.Pieces.{Lacks};
 ghost use Rattle.ff_rec.specs.Progress.{IsLineFault};
 ghost use Rattle.ff_rec.specs.Reading.{line_fault};
 
-use crate::record::MOST_FIELDS;
 use crate::tabs::count_tabs;
-use crate::{CutFault, FeedFault, LineFault, Record};
+use crate::{CutFault, FeedFault, LineFault, MOST_FIELDS, Record};
 use std::alloc::Global;
 
 /// The limit that the line `number` passes with this part. Before it stands `line`, with so many tabs.
@@ -35,7 +34,7 @@ pub fn limit_of(
     None
 }
 
-/// The limit that a line passes first that is too long.
+// The limit that a line passes first that is too long.
 fn limit_of_long(limit: usize, number: u64, line: &[u8]) -> LineFault
     requires { limit < length line.now }
     ensures { line_fault limit number line.now ≡ Some result }

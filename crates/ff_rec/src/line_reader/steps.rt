@@ -20,9 +20,12 @@ pub fn read(
     requires { IsReady limits progress.old }
     ensures ready { OnOk result (IsReady limits progress.new) }
     ensures taken { OnOk result (progress.new.taken ≡ progress.old.taken + length piece.now) }
-    ensures state { UnlessMemory result (left_by result limits progress.new ≡ after (reading_of limits progress.old) piece.now) }
-    ensures records { UnlessMemory result (into.new.items ≡ into.old.items ++ given (reading_of limits progress.old) piece.now) }
-    ensures first { (n : ℕ) × (into.new.items ≡ into.old.items ++ take n (given (reading_of limits progress.old) piece.now)) }
+    ensures state { UnlessMemory result (left_by result limits progress.new
+        ≡ after (reading_of limits progress.old) piece.now) }
+    ensures records { UnlessMemory result (into.new.items
+        ≡ into.old.items ++ given (reading_of limits progress.old) piece.now) }
+    ensures first { (n : ℕ) × (into.new.items
+        ≡ into.old.items ++ take n (given (reading_of limits progress.old) piece.now)) }
 {
     let room = limits.input - progress.taken;
     if piece.len() as u64 <= room {
@@ -32,7 +35,7 @@ pub fn read(
     Err(FeedFault::Line(LineFault::InputTooLong))
 }
 
-/// The same of a piece that doesn't pass the limit of the input.
+// Reads a piece that doesn't pass the limit of the input.
 fn read_within(
     limits: Limits,
     progress: &mut Progress,
@@ -43,9 +46,12 @@ fn read_within(
     requires room { progress.old.taken + length piece.now ≤ limits.input }
     ensures ready { OnOk result (IsReady limits progress.new) }
     ensures taken { OnOk result (progress.new.taken ≡ progress.old.taken + length piece.now) }
-    ensures state { UnlessMemory result (left_by result limits progress.new ≡ after (reading_of limits progress.old) piece.now) }
-    ensures records { UnlessMemory result (into.new.items ≡ into.old.items ++ given (reading_of limits progress.old) piece.now) }
-    ensures first { (n : ℕ) × (into.new.items ≡ into.old.items ++ take n (given (reading_of limits progress.old) piece.now)) }
+    ensures state { UnlessMemory result (left_by result limits progress.new
+        ≡ after (reading_of limits progress.old) piece.now) }
+    ensures records { UnlessMemory result (into.new.items
+        ≡ into.old.items ++ given (reading_of limits progress.old) piece.now) }
+    ensures first { (n : ℕ) × (into.new.items
+        ≡ into.old.items ++ take n (given (reading_of limits progress.old) piece.now)) }
 {
     let mut left = piece;
     loop {
@@ -60,12 +66,13 @@ fn read_within(
 }
 
 /// Keeps a part of a line that no newline has ended yet.
-fn keep_part(limits: Limits, progress: &mut Progress, part: &[u8]) -> Result<(), FeedFault>
+pub fn keep_part(limits: Limits, progress: &mut Progress, part: &[u8]) -> Result<(), FeedFault>
     requires ready { IsReady limits progress.old }
     requires room { progress.old.taken + length part.now ≤ limits.input }
     requires clean { Lacks 10 part.now }
     ensures ok { OnOk result (KeepsPart limits progress.old progress.new part.now) }
-    ensures fault { IfErr result (λ f. IsLineFault f (line_fault limits.line (progress.old.ended + 1) (progress.old.line.items ++ part.now))) }
+    ensures fault { IfErr result (λ f. IsLineFault f
+        (line_fault limits.line (progress.old.ended + 1) (progress.old.line.items ++ part.now))) }
 {
     if part.is_empty() {
         return Ok(());
@@ -89,7 +96,7 @@ fn keep_part(limits: Limits, progress: &mut Progress, part: &[u8]) -> Result<(),
     }
 }
 
-/// Appends the record of a line whose last part stands before a newline. After a refusal `into` is unchanged.
+// Appends the record of a line whose last part stands before a newline. After a refusal `into` is unchanged.
 fn end_line(
     limits: Limits,
     progress: &mut Progress,
@@ -100,8 +107,10 @@ fn end_line(
     requires room { progress.old.taken + length part.now + 1 ≤ limits.input }
     requires clean { Lacks 10 part.now }
     ensures ok { OnOk result (EndsLine limits progress.old progress.new part.now) }
-    ensures record { OnOk result (into.new.items ≡ into.old.items ++ cut 9 (progress.old.line.items ++ part.now) ∷ []) }
-    ensures fault { IfErr result (λ f. IsLineFault f (line_fault limits.line (progress.old.ended + 1) (progress.old.line.items ++ part.now))) }
+    ensures record { OnOk result (into.new.items
+        ≡ into.old.items ++ cut 9 (progress.old.line.items ++ part.now) ∷ []) }
+    ensures fault { IfErr result (λ f. IsLineFault f
+        (line_fault limits.line (progress.old.ended + 1) (progress.old.line.items ++ part.now))) }
     ensures err { OnErr result (into.new.items ≡ into.old.items) }
 {
     if !progress.line.is_empty() {
@@ -120,7 +129,7 @@ fn end_line(
     Ok(())
 }
 
-/// The same of a line that began in an earlier piece.
+// Appends the record of a line that began in an earlier piece. After a refusal `into` is unchanged.
 fn end_kept(
     limits: Limits,
     progress: &mut Progress,
@@ -131,8 +140,10 @@ fn end_kept(
     requires room { progress.old.taken + length part.now + 1 ≤ limits.input }
     requires clean { Lacks 10 part.now }
     ensures ok { OnOk result (EndsLine limits progress.old progress.new part.now) }
-    ensures record { OnOk result (into.new.items ≡ into.old.items ++ cut 9 (progress.old.line.items ++ part.now) ∷ []) }
-    ensures fault { IfErr result (λ f. IsLineFault f (line_fault limits.line (progress.old.ended + 1) (progress.old.line.items ++ part.now))) }
+    ensures record { OnOk result (into.new.items
+        ≡ into.old.items ++ cut 9 (progress.old.line.items ++ part.now) ∷ []) }
+    ensures fault { IfErr result (λ f. IsLineFault f
+        (line_fault limits.line (progress.old.ended + 1) (progress.old.line.items ++ part.now))) }
     ensures err { OnErr result (into.new.items ≡ into.old.items) }
 {
     keep_part(limits, progress, part)?;

@@ -43,28 +43,6 @@ fn line_reader_keeps_its_refusal(rt: HostRuntime) -> Result<(), Fail> {
     Ok(())
 }
 
-// A line of so many bytes `x` and a newline.
-fn line_of(alloc: Global, len: usize) -> Result<Vec<u8>, Fail> {
-    let mut line = Vec::new(alloc);
-    line.resize(len, b'x')?;
-    line.push(b'\n')?;
-    Ok(line)
-}
-
-#[test]
-fn long_lines(rt: HostRuntime) -> Result<(), Fail> {
-    let mut reader = LineReader::new(rt.alloc(), 65_536, 1 << 40)?;
-    let mut into = Vec::new(rt.alloc());
-    let longest = line_of(rt.alloc(), 65_536)?;
-    feed(&rt, &mut reader, longest.as_slice(), &mut into, Ok(()));
-    assert_eq!(rt; text_of(rt.alloc(), &into)?.as_slice(), longest.as_slice());
-    let long = line_of(rt.alloc(), 65_537)?;
-    let too_long = Err(FeedFault::Line(LineFault::TooLong(2)));
-    feed(&rt, &mut reader, long.as_slice(), &mut into, too_long);
-    assert_eq!(rt; into.len(), 1);
-    Ok(())
-}
-
 #[test]
 fn many_fields(rt: HostRuntime) -> Result<(), Fail> {
     let mut reader = LineReader::new(rt.alloc(), 65_536, 1 << 40)?;
@@ -82,43 +60,63 @@ fn many_fields(rt: HostRuntime) -> Result<(), Fail> {
     Ok(())
 }
 
-// What a reader with these limits answers to the whole text in one piece.
-fn answer_of(
-    rt: &impl Abort,
-    alloc: Global,
-    line_limit: usize,
-    input_limit: u64,
-    text: &[u8],
-    want: Result<(), FeedFault>,
-) -> Result<(), Fail> {
-    assert!(rt; 1 <= line_limit && 1 <= input_limit);
-    let mut reader = LineReader::new(alloc, line_limit, input_limit)?;
-    let mut into = Vec::new(alloc);
-    assert_eq!(rt;
-        reader.feed(text, &mut into),
-        want,
-        "{line_limit} and {input_limit}"
-    );
+// A text of so many bytes, of which the others behind the front are the same.
+fn text_from(alloc: Global, front: &[u8], len: usize, byte: u8) -> Result<Vec<u8>, Fail> {
+    let mut text = Vec::from_slice(alloc, front)?;
+    text.resize(len, byte)?;
+    Ok(text)
+}
+
+#[test]
+fn the_first_limit_that_is_passed_decides(rt: HostRuntime) -> Result<(), Fail> {
+    // 64 tabs behind a line: the last of them is byte 66 of the text and byte 64 of its line.
+    let tabs = text_from(rt.alloc(), b"a\n", 66, b'\t')?;
+    let tabs = tabs.as_slice();
+    let long = text_from(rt.alloc(), b"\n", 65_538, b'x')?;
+    let long = long.as_slice();
+    let input = Err(FeedFault::Line(LineFault::InputTooLong));
+    let too_long = Err(FeedFault::Line(LineFault::TooLong(2)));
+    let many = Err(FeedFault::Line(LineFault::TooManyFields(2)));
+    for (line_limit, input_limit, text, want) in [
+        (63, 65, tabs, input),
+        (64, 65, tabs, input),
+        (63, 66, tabs, too_long),
+        (62, 65, tabs, too_long),
+        (64, 66, tabs, many),
+        (65_536, 1 << 40, long, too_long),
+        (65_537, 1 << 40, long, Ok(())),
+        // A newline is a byte of the input, and none of its line.
+        (1, 3, b"a\nb\n", input),
+        (1, 4, b"a\nb\n", Ok(())),
+    ] {
+        assert!(rt; 1 <= line_limit && 1 <= input_limit);
+        let mut reader = LineReader::new(rt.alloc(), line_limit, input_limit)?;
+        let mut into = Vec::new(rt.alloc());
+        assert_eq!(rt;
+            reader.feed(text, &mut into),
+            want,
+            "{line_limit}, {input_limit}"
+        );
+        let mut other = LineReader::new(rt.alloc(), line_limit, input_limit)?;
+        assert_eq!(rt; other.pass_over(text), want, "{line_limit}, {input_limit}");
+    }
     Ok(())
 }
 
 #[test]
-fn of_several_limits_at_one_byte_the_input_comes_first(rt: HostRuntime) -> Result<(), Fail> {
-    // 64 tabs behind a line: the last of them is byte 66 of the text and byte 64 of its line.
-    let mut text = Vec::from_slice(rt.alloc(), b"a\n")?;
-    text.resize(66, b'\t')?;
-    let text = text.as_slice();
-    let input = Err(FeedFault::Line(LineFault::InputTooLong));
-    let long = Err(FeedFault::Line(LineFault::TooLong(2)));
-    let many = Err(FeedFault::Line(LineFault::TooManyFields(2)));
-    answer_of(&rt, rt.alloc(), 63, 65, text, input)?;
-    answer_of(&rt, rt.alloc(), 64, 65, text, input)?;
-    answer_of(&rt, rt.alloc(), 63, 66, text, long)?;
-    answer_of(&rt, rt.alloc(), 62, 65, text, long)?;
-    answer_of(&rt, rt.alloc(), 64, 66, text, many)?;
-    // A newline is a byte of the input, and none of its line.
-    answer_of(&rt, rt.alloc(), 1, 3, b"a\nb\n", input)?;
-    answer_of(&rt, rt.alloc(), 1, 4, b"a\nb\n", Ok(()))?;
+fn what_was_passed_over_counts(rt: HostRuntime) -> Result<(), Fail> {
+    let mut reader = LineReader::new(rt.alloc(), 3, 14)?;
+    let mut into = Vec::new(rt.alloc());
+    for piece in ["a\tb", "\n\n", "cc"] {
+        assert_eq!(rt; reader.pass_over(piece.as_bytes()), Ok(()));
+    }
+    feed(&rt, &mut reader, b"d\ne", &mut into, Ok(()));
+    assert_eq!(rt; text_of(rt.alloc(), &into)?.as_slice(), b"ccd\n".as_slice());
+    let too_long = Err(FeedFault::Line(LineFault::TooLong(4)));
+    assert_eq!(rt; reader.pass_over(b"fgh"), too_long);
+    assert_eq!(rt; reader.pass_over(b"\n"), too_long);
+    feed(&rt, &mut reader, b"i\n", &mut into, too_long);
+    assert_eq!(rt; into.len(), 1);
     Ok(())
 }
 

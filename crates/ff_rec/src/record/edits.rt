@@ -3,9 +3,9 @@ ghost use Rattle.std.specs.Prelude.{◌≡◌, ◌↔◌, ◌-◌, ◌≤◌, []
 ghost use Rattle.std.specs.List.{remove, swap};
 ghost use Rattle.ff_rec.specs.declared.fault.PushFault.TheVariants.{Full};
 
-use super::{MOST_FIELDS, Record};
+use super::Record;
 use crate::block::{exchange, keep, push_front, take_out};
-use crate::{Field, NoMemory, PushFault};
+use crate::{Field, MOST_FIELDS, NoMemory, PushFault};
 
 impl Record {
     /// Adds a first field. After a refusal the record is unchanged.

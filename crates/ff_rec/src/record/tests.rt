@@ -1,6 +1,7 @@
 // What no clause says: that the calls succeed while memory is there, and that the clauses mean these bytes.
-use super::{MOST_FIELDS, Record, print_record};
-use crate::{CutFault, Field, Kept, PushFault, split};
+use super::{Record, print_record};
+use crate::bytes::SHORT;
+use crate::{CutFault, Field, Kept, MOST_FIELDS, PushFault, split};
 use std::alloc::Global;
 use std::process::Abort;
 use std::test::Fail;
@@ -143,7 +144,10 @@ fn fields_come_go_and_change_places(rt: HostRuntime) -> Result<(), Fail> {
 
 #[test]
 fn a_record_of_a_part_of_another(rt: HostRuntime) -> Result<(), Fail> {
-    let r = Record::of_line(rt.alloc(), split(b"ab\tc", b'\n').0)?;
+    let r = Record::of_line(rt.alloc(), split(b"ab\t-7\t7x", b'\n').0)?;
+    for (k, want) in [(0, None), (1, None), (2, Some(-7)), (3, None), (4, None)] {
+        assert_eq!(rt; r.number(k), want, "the number in field {k}");
+    }
     match r.field(1) {
         Some(bytes) => assert_eq!(rt;
             Record::of_plain(r.allocator(), bytes)?.joined(),
@@ -151,5 +155,38 @@ fn a_record_of_a_part_of_another(rt: HostRuntime) -> Result<(), Fail> {
         ),
         None => panic!(rt; "no first field"),
     }
+    Ok(())
+}
+
+// So many bytes `x`.
+fn run_of(alloc: Global, len: usize) -> Result<Field, Fail> {
+    let mut bytes = Vec::new(alloc);
+    bytes.resize(len, b'x')?;
+    Ok(Field::new(alloc, bytes.as_slice())?)
+}
+
+#[test]
+fn a_record_is_the_same_in_place_and_in_a_heap_block(rt: HostRuntime) -> Result<(), Fail> {
+    let room = SHORT - 2;
+    for len in [0, room, room + 1, 100] {
+        let wide = run_of(rt.alloc(), len)?;
+        let mut r = Record::of_line(rt.alloc(), split(b"k\tv", b'\n').0)?;
+        assert!(rt; 2 <= r.len());
+        r.set(1, &wide)?;
+        assert_eq!(rt; r.copy()?.field(1), Some(wide.bytes()), "{len}");
+        assert_eq!(rt; r.field(2), Some(b"v".as_slice()), "{len}");
+        r.push_first(&wide)?;
+        r.push(&wide)?;
+        assert!(rt; 4 <= r.len());
+        r.swap(3, 4)?;
+        assert_eq!(rt; r.field(4), Some(b"v".as_slice()), "{len}");
+        assert_eq!(rt; r.joined().len(), 3 * len + 4);
+        assert!(rt; 4 <= r.len());
+        r.remove(1);
+        assert!(rt; 3 <= r.len());
+        r.keep_only(3);
+        assert_eq!(rt; r.joined(), b"v".as_slice(), "{len}");
+    }
+    assert_eq!(rt; size_of::<Record>(), 48);
     Ok(())
 }

@@ -18,7 +18,7 @@ returns-in_err-read_within-clause-state c =
     let r = err_from_is_err_and c.from_residual.result c.from_residual.ensures.1 in
     rw (r.1, r.2)
     (front-state (reading_of c.args.limits c.args.progress.now) (take room c.args.piece.now) (drop room c.args.piece.now) c.args.piece.now (take-append-drop room c.args.piece.now)
-    c.args.into.now.items c.read_within-2.new.into.items c.args.limits c.read_within-2.new.progress c.in_err-read_within.field-0.0 c.in_err-read_within.ensures.state)
+    c.args.limits c.read_within-2.new.progress c.in_err-read_within.field-0.0 c.in_err-read_within.ensures.state)
 
 pub returns-in_err-read_within-clause-records : goal.returns-in_err-read_within-clause-records
 returns-in_err-read_within-clause-records c =
@@ -32,7 +32,7 @@ pub returns-clause-state : goal.returns-clause-state
 returns-clause-state c =
     let room = c.args.limits.input - c.args.progress.now.taken in
     full-state (reading_of c.args.limits c.args.progress.now) (take room c.args.piece.now) (drop room c.args.piece.now) c.args.piece.now (take-append-drop room c.args.piece.now)
-    c.args.into.now.items c.read_within-2.new.into.items c.args.limits c.read_within-2.new.progress c.in_ok-read_within.ensures.state
+    c.args.limits c.read_within-2.new.progress c.in_ok-read_within.ensures.state
     (omega (arith, c.in_ok-read_within.ensures.taken, length-take room c.args.piece.now))
     (omega (arith, length-drop room c.args.piece.now))
 

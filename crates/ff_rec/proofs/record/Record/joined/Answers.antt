@@ -5,4 +5,4 @@ use Rattle.ff_rec.proofs.Joins.{joined-cut}
 use Rattle.ff_rec.proofs.record.Record.joined.Goals as goal
 
 pub returns : goal.returns
-returns c = c.as_slice.ensures.value ∙ sym (joined-cut c.self.inside.block.items) ∙ ap joined c.self.view_is
+returns c = c.as_slice.ensures ∙ sym (joined-cut c.self.inside.block.items) ∙ ap joined c.self.view_is
