@@ -35,6 +35,13 @@ impl Records {
         }
     }
 
+    /// The records of this queue.
+    pub fn of(list: VecDeque<Record>) -> Records
+        ensures { result ≡ list.items }
+    {
+        Records { list }
+    }
+
     /// Adds a record at the end. After a refusal nothing changed.
     pub fn push(&mut self, r: Record) -> Result<(), NoMemory>
         ensures ok { OnOk result (self.new ≡ self.old ++ r ∷ []) }
