@@ -2,10 +2,11 @@
 use Rattle.std.proofs.Common.{◌≡◌, ℕ, zero, suc, ◌+◌, ◌<◌, ◌≤◌, Bool, true, false, if◌then◌else◌, List, [], ◌∷◌, ◌++◌, map, length, take, drop, set, get_or, refl, sym, ap, ap₂, ◌∙◌, append_assoc, append-nil, add-one, arith}
 use Rattle.ff_rec.specs.Lines.{Rec}
 use Rattle.ff_node.specs.Behaviour.{Behaviour}
-use Rattle.ff_node.specs.Sends.{Sent, add}
+use Rattle.ff_node.specs.Sends.{Sent, add, rejects_alone}
+use Rattle.ff_node.specs.Passing.{fed, fed_last, passed, passed_last}
 use Rattle.ff_node.specs.Comb.{Part, part, parts, given_from, given_rejected, part_from, part_sends, part_rejects, part_after, part_total, part_total_rejects, through, through_rejects, through_after, total, total_rejects}
 use Rattle.ff_node.specs.CombParts.{given_from-append, given_rejected-append, part_from-append, part_sends-total, part_rejects-total}
-use Rattle.ff_node.proofs.SendsLaws.{add-add, add-nothing}
+use Rattle.ff_node.proofs.SendsLaws.{add-add, add-nothing, add-sends}
 
 -- each element replaced by what `f` makes of it, one place further
 pub set-mapped : {A : Type 0} (f : A → A) (xs : List A) (i : ℕ) (x : A) → i < length xs → x ≡ get_or (take i (map f xs) ++ drop i xs) i x
@@ -22,15 +23,6 @@ set-mapped_at f xs ys i x y so_far below is made =
     ∙ ap (λ k. take k (map f xs) ++ drop k xs) (sym (add-one i))
 
 module _ {N : Type 0} (b : Behaviour N) where
-  -- what a node sends for a record that ends it
-  pub add-step : (s t : N) (x : Rec) (out mid new : Sent) → t ≡ b.next s x → mid ≡ add out (b.sends s x) (b.rejects s x) → b.ends s x ≡ true
-      → new ≡ add mid (b.last t) (b.last_rejects t) → new ≡ add out (given_from b s (x ∷ [])) (given_rejected b s (x ∷ []))
-  add-step s t x out mid new next sent ends at_end =
-      at_end
-      ∙ ap₂ (λ (o : Sent) (n : N). add o (b.last n) (b.last_rejects n)) sent next
-      ∙ add-add out (b.sends s x) (b.rejects s x) (b.last (b.next s x)) (b.last_rejects (b.next s x))
-      ∙ ap (λ (e : Bool). add out (b.sends s x ++ (if e then b.last (b.next s x) else [])) (b.rejects s x ++ (if e then b.last_rejects (b.next s x) else []))) (sym ends)
-
   -- a part after a record, and what it sends, with those behind it
   pub part_after-feed : (s : N) (e : Bool) (x : Rec) (xs all : List Rec) (q : Part N) → e ≡ false → all ≡ x ∷ xs → q ≡ part_from b s (x ∷ [])
       → part_after b q xs ≡ part_after b (part s e) all
@@ -72,16 +64,6 @@ module _ {N : Type 0} (b : Behaviour N) where
       ∙ sym (ap (λ (f : Bool). add mid (part_total b (part s f) []) (part_total_rejects b (part s f) [])) ended)
       ∙ add-end p (part s e) us out mid after sent
 
--- what is sent stands aside: the sends are taken out, and the rejects stay
-pub sends-aside : (out mid : Sent) (sends rejects : List Rec) → out.sends ≡ [] → mid ≡ add out sends rejects → mid.sends ≡ sends
-sends-aside out mid sends rejects aside sent = ap (λ (o : Sent). o.sends) sent ∙ ap (λ front. front ++ sends) aside
-
-pub rejects-aside : (out mid new : Sent) (sends rejects : List Rec) → out.sends ≡ [] → mid ≡ add out sends rejects → new ≡ record mid { sends = [] }
-    → new ≡ add out [] rejects
-rejects-aside out mid new sends rejects aside sent swapped =
-    let sending : Sent → List Rec → Sent = λ o us. record o { sends = us } in
-    swapped ∙ ap (λ (o : Sent). sending o []) sent ∙ ap (sending (add out [] rejects)) (sym (append-nil out.sends ∙ aside))
-
 -- a part among the others
 parts-drop : {N : Type 0} (ns : List N) (es : List Bool) (i : ℕ) (n : N) (e : Bool) → i < length ns → length ns ≤ length es
     → n ≡ get_or ns i n → e ≡ get_or es i false → drop i (parts ns es) ≡ part n e ∷ drop (suc i) (parts ns es)
@@ -120,17 +102,27 @@ module _ {N : Type 0} (b : Behaviour N) (ns : List N) (es : List Bool) (i : ℕ)
   behind : drop (i + 1) (parts (set ns i m) (set es i f)) ≡ drop (suc i) (parts ns es)
   behind = ap (λ j. drop j (parts (set ns i m) (set es i f))) (add-one i) ∙ parts-drop_set ns es i m f
 
-  pub through-step : (us vs : List Rec) → vs ≡ part_sends b (part n e) us
-      → through b (drop (i + 1) (parts (set ns i m) (set es i f))) vs ≡ through b (drop i (parts ns es)) us
-  through-step us vs sent = ap₂ (through b) behind sent ∙ sym (ap (λ ps. through b ps us) here)
+  pub passed-step : (out new : Sent) → new ≡ fed b (part n e) out
+      → passed b (drop (i + 1) (parts (set ns i m) (set es i f))) new ≡ passed b (drop i (parts ns es)) out
+  passed-step out new taken =
+      let sends = part_sends b (part n e) out.sends in
+      let rejects = part_rejects b (part n e) out.sends in
+      let rest = drop (i + 1) (parts (set ns i m) (set es i f)) in
+      ap (passed b rest) taken
+      ∙ add-add (rejects_alone out) [] rejects (through b rest sends) (through_rejects b rest sends)
+      ∙ ap (λ ps. add (rejects_alone out) (through b ps sends) (rejects ++ through_rejects b ps sends)) behind
+      ∙ sym (ap (λ ps. passed b ps out) here)
 
-  pub through_rejects-step : (us vs : List Rec) (out new : Sent) → vs ≡ part_sends b (part n e) us → new ≡ add out [] (part_rejects b (part n e) us)
-      → add new [] (through_rejects b (drop (i + 1) (parts (set ns i m) (set es i f))) vs) ≡ add out [] (through_rejects b (drop i (parts ns es)) us)
-  through_rejects-step us vs out new sent rejected =
-      ap (λ (o : Sent). add o [] (through_rejects b (drop (i + 1) (parts (set ns i m) (set es i f))) vs)) rejected
-      ∙ add-add out [] (part_rejects b (part n e) us) [] (through_rejects b (drop (i + 1) (parts (set ns i m) (set es i f))) vs)
-      ∙ ap₂ (λ ps ws. add out [] (part_rejects b (part n e) us ++ through_rejects b ps ws)) behind sent
-      ∙ sym (ap (λ ps. add out [] (through_rejects b ps us)) here)
+  pub passed_last-step : (out new : Sent) → new ≡ fed_last b (part n e) out
+      → passed_last b (drop (i + 1) (parts (set ns i m) (set es i f))) new ≡ passed_last b (drop i (parts ns es)) out
+  passed_last-step out new taken =
+      let sends = part_total b (part n e) out.sends in
+      let rejects = part_total_rejects b (part n e) out.sends in
+      let rest = drop (i + 1) (parts (set ns i m) (set es i f)) in
+      ap (passed_last b rest) taken
+      ∙ add-add (rejects_alone out) [] rejects (total b rest sends) (total_rejects b rest sends)
+      ∙ ap (λ ps. add (rejects_alone out) (total b ps sends) (rejects ++ total_rejects b ps sends)) behind
+      ∙ sym (ap (λ ps. passed_last b ps out) here)
 
   pub through_after-step : (us vs : List Rec) → vs ≡ part_sends b (part n e) us → part m f ≡ part_after b (part n e) us
       → take (i + 1) (parts (set ns i m) (set es i f)) ++ through_after b (drop (i + 1) (parts (set ns i m) (set es i f))) vs
@@ -141,18 +133,6 @@ module _ {N : Type 0} (b : Behaviour N) (ns : List N) (es : List Bool) (i : ℕ)
       ∙ append_assoc (take i (parts ns es)) (part m f ∷ []) (through_after b (drop (suc i) (parts ns es)) vs)
       ∙ ap₂ (λ p ws. take i (parts ns es) ++ p ∷ through_after b (drop (suc i) (parts ns es)) ws) after sent
       ∙ sym (ap (λ ps. take i (parts ns es) ++ through_after b ps us) here)
-
-  pub total-step : (us vs : List Rec) → vs ≡ part_total b (part n e) us
-      → total b (drop (i + 1) (parts (set ns i m) (set es i f))) vs ≡ total b (drop i (parts ns es)) us
-  total-step us vs sent = ap₂ (total b) behind sent ∙ sym (ap (λ ps. total b ps us) here)
-
-  pub total_rejects-step : (us vs : List Rec) (out new : Sent) → vs ≡ part_total b (part n e) us → new ≡ add out [] (part_total_rejects b (part n e) us)
-      → add new [] (total_rejects b (drop (i + 1) (parts (set ns i m) (set es i f))) vs) ≡ add out [] (total_rejects b (drop i (parts ns es)) us)
-  total_rejects-step us vs out new sent rejected =
-      ap (λ (o : Sent). add o [] (total_rejects b (drop (i + 1) (parts (set ns i m) (set es i f))) vs)) rejected
-      ∙ add-add out [] (part_total_rejects b (part n e) us) [] (total_rejects b (drop (i + 1) (parts (set ns i m) (set es i f))) vs)
-      ∙ ap₂ (λ ps ws. add out [] (part_total_rejects b (part n e) us ++ total_rejects b ps ws)) behind sent
-      ∙ sym (ap (λ ps. add out [] (total_rejects b ps us)) here)
 
 -- no part is left at the end of the loop
 pub parts-drop_all : {N : Type 0} (ns : List N) (es : List Bool) (i : ℕ) → length ns ≤ i → drop i (parts ns es) ≡ []
@@ -170,18 +150,12 @@ parts-take_all (n ∷ ns) [] (suc i) all = ap (λ ps. part n false ∷ ps) (part
 parts-take_all (n ∷ ns) (e ∷ es) (suc i) all = ap (λ ps. part n e ∷ ps) (parts-take_all ns es i (omega arith))
 
 module _ {N : Type 0} (b : Behaviour N) (ns : List N) (es : List Bool) (i : ℕ) (all : length ns ≤ i) where
-  pub through-done : (us : List Rec) → through b (drop i (parts ns es)) us ≡ us
-  through-done us = ap (λ ps. through b ps us) (parts-drop_all ns es i all)
+  pub passed-done : (out : Sent) → passed b (drop i (parts ns es)) out ≡ out
+  passed-done out = ap (λ ps. passed b ps out) (parts-drop_all ns es i all) ∙ add-sends out
 
-  pub through_rejects-done : (us : List Rec) (out : Sent) → add out [] (through_rejects b (drop i (parts ns es)) us) ≡ out
-  through_rejects-done us out = ap (λ ps. add out [] (through_rejects b ps us)) (parts-drop_all ns es i all) ∙ add-nothing out
+  pub passed_last-done : (out : Sent) → passed_last b (drop i (parts ns es)) out ≡ out
+  passed_last-done out = ap (λ ps. passed_last b ps out) (parts-drop_all ns es i all) ∙ add-sends out
 
   pub through_after-done : (us : List Rec) → take i (parts ns es) ++ through_after b (drop i (parts ns es)) us ≡ parts ns es
   through_after-done us =
       ap₂ (λ front ps. front ++ through_after b ps us) (parts-take_all ns es i all) (parts-drop_all ns es i all) ∙ append-nil (parts ns es)
-
-  pub total-done : (us : List Rec) → total b (drop i (parts ns es)) us ≡ us
-  total-done us = ap (λ ps. total b ps us) (parts-drop_all ns es i all)
-
-  pub total_rejects-done : (us : List Rec) (out : Sent) → add out [] (total_rejects b (drop i (parts ns es)) us) ≡ out
-  total_rejects-done us out = ap (λ ps. add out [] (total_rejects b ps us)) (parts-drop_all ns es i all) ∙ add-nothing out

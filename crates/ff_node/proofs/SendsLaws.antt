@@ -2,7 +2,7 @@
 use Rattle.std.specs.Prelude.{◌≡◌, ℕ, ◌+◌, ◌-◌, ◌^◌, ◌≤◌, min, Bool, true, false, List, [], ◌∷◌, ◌++◌, length, refl}
 use Rattle.std.proofs.Common.{◌∙◌, append_assoc, append-nil, arith}
 use Rattle.ff_rec.specs.Lines.{Rec}
-use Rattle.ff_node.specs.Sends.{Sent, count_more, kept_of, add}
+use Rattle.ff_node.specs.Sends.{Sent, count_more, kept_of, add, rejects_alone}
 
 -- two lists of rejects are counted one after the other
 pub count_more-append : (n : ℕ) (xs ys : List Rec) → count_more n (xs ++ ys) ≡ count_more (count_more n xs) ys
@@ -37,3 +37,7 @@ add-add s a b c d = simp (append_assoc, count_more-append, kept_of-append) refl
 -- adding nothing
 pub add-nothing : (s : Sent) → add s [] [] ≡ s
 add-nothing s = simp (append-nil, kept_of-nil) refl
+
+-- what was sent, added to the rejects alone
+pub add-sends : (s : Sent) → add (rejects_alone s) s.sends [] ≡ s
+add-sends s = simp (append-nil, kept_of-nil) refl

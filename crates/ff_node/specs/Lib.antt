@@ -2,10 +2,12 @@ pub mod Behaviour
 pub mod Classes
 pub mod Sends
 pub mod Next
+pub mod Feeds
 pub mod Stateless
 pub mod OnLists
 pub mod OnListsLaws
 pub mod Comb
+pub mod Passing
 pub mod CombParts
 pub mod CombLaws
 pub mod CombKind

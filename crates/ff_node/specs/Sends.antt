@@ -20,6 +20,14 @@ abbrev pub add : Sent → List Rec → List Rec → Sent
 add s sends rejects =
     record { sends = s.sends ++ sends; rejects = count_more s.rejects rejects; keeps = s.keeps; kept = s.kept ++ kept_of s.keeps rejects }
 
+-- all sends were taken out, and the rejects are as they were
+abbrev pub rejects_alone : Sent → Sent
+rejects_alone s = record s { sends = [] }
+
+-- these stand in front of what was sent
+abbrev pub sent_before : List Rec → Sent → Sent
+sent_before xs s = record s { sends = xs ++ s.sends }
+
 -- nothing sent and nothing rejected
 abbrev pub nothing_sent : Bool → Sent
 nothing_sent keeps = record { sends = []; rejects = 0; keeps = keeps; kept = [] }

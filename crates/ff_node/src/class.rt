@@ -1,3 +1,5 @@
+// What is promised of a node, and whether it goes on.
+
 /// What is promised of a node, so that a network may hand its records out to several copies of it.
 #[derive(Clone, Copy, Debug, PartialEq, Eq, Hash)]
 pub enum Class {
@@ -16,4 +18,19 @@ pub enum Class {
 pub enum Next {
     GoOn,
     Eos,
+}
+
+impl Next {
+    ghost use Rattle.std.specs.Prelude.{◌≡◌};
+    ghost use Rattle.ff_node.specs.Next.{is_eos};
+
+    /// Whether the node ends.
+    pub fn is_eos(self) -> bool
+        ensures { result ≡ is_eos self }
+    {
+        match self {
+            Next::GoOn => false,
+            Next::Eos => true,
+        }
+    }
 }

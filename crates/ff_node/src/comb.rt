@@ -6,7 +6,6 @@ use crate::nodes::{close, copies, joint_class, open};
 use crate::parts::{finish, pass};
 use crate::{Class, Next, Node, Sends};
 use ff_rec::{NoMemory, Record};
-use std::collections::VecDeque;
 use std::marker::Model;
 
 /// Several nodes run as one: the first takes the records, and each of the others what the one before it sends. It ends
@@ -16,10 +15,6 @@ pub struct Comb<N> {
     nodes: Vec<N>,
     // Which of them have ended by themselves.
     ended: [bool; 64],
-    // Records between two parts, and those that the caller's sends held before. Both are kept for their room alone: a
-    // block for each call would cost more than a part's own work.
-    given: VecDeque<Record>,
-    before: VecDeque<Record>,
 }
 
 impl<N> Model for Comb<N> {
@@ -40,12 +35,9 @@ impl<N: Node> Comb<N> {
         requires few { length parts.items ≤ 64 }
         ensures { result ≡ running parts.items }
     {
-        let alloc = *parts.allocator();
         Comb {
             nodes: parts,
             ended: [false; 64],
-            given: VecDeque::new(alloc),
-            before: VecDeque::new(alloc),
         }
     }
 }
@@ -75,24 +67,17 @@ impl<N: Node> Node for Comb<N> {
     }
 
     fn svc(&mut self, r: Record, out: &mut Sends) -> Result<Next, NoMemory> {
-        self.given.clear();
-        self.given.push_back(r)?;
-        self.before.clear();
-        out.swap_sends(&mut self.before);
-        pass(&mut self.nodes, &mut self.ended, &mut self.given, out)?;
-        self.before.append(&mut self.given)?;
-        out.swap_sends(&mut self.before);
+        let before = out.take_queue()?;
+        out.send(r)?;
+        pass(&mut self.nodes, &mut self.ended, out)?;
+        out.put_before(before)?;
         Ok(if self.ended[0] { Next::Eos } else { Next::GoOn })
     }
 
     fn eos_notify(&mut self, out: &mut Sends) -> Result<(), NoMemory> {
-        self.given.clear();
-        self.before.clear();
-        out.swap_sends(&mut self.before);
-        finish(&mut self.nodes, &mut self.ended, &mut self.given, out)?;
-        self.before.append(&mut self.given)?;
-        out.swap_sends(&mut self.before);
-        Ok(())
+        let before = out.take_queue()?;
+        finish(&mut self.nodes, &mut self.ended, out)?;
+        out.put_before(before)
     }
 
     fn svc_end(&mut self) {

@@ -7,12 +7,14 @@ pub mod laws;
 mod node;
 mod nodes;
 mod parts;
+mod running;
 mod sends;
 
 pub use class::{Class, Next};
 pub use comb::Comb;
 pub use ff_rec::{Cmp, Records};
 pub use node::Node;
+pub use running::{node_end, node_step};
 pub use sends::Sends;
 
 #[cfg(test)]

@@ -1,8 +1,9 @@
 // What a node's calls gather for their caller.
-ghost use Rattle.std.specs.Prelude.{◌≡◌, ◌∷◌, ◌++◌, [], length, true, false, IsOk, OnOk, OnErr};
-ghost use Rattle.ff_node.specs.Sends.{add, nothing_sent, IsCounted, TakesSend, TakesReject};
+ghost use Rattle.std.specs.Prelude.{◌≡◌, ◌∷◌, ◌++◌, ◌↔◌, [], length, true, false, IsTrue, IsOk, IfOk, OnOk, OnErr};
+ghost use Rattle.ff_rec.specs.Lines.{Rec};
+ghost use Rattle.ff_node.specs.Sends.{add, nothing_sent, rejects_alone, sent_before, IsCounted, TakesSend, TakesReject};
 
-use ff_rec::{Kept, NoMemory, Record, copies};
+use ff_rec::{Kept, NoMemory, Record, Records, copies};
 use std::alloc::Global;
 use std::collections::VecDeque;
 use std::marker::Model;
@@ -11,7 +12,9 @@ use std::mem;
 /// The records that a node sent, and the number of those that it rejected, which are kept where that is asked for.
 #[derive(Debug, Drop)]
 pub struct Sends {
-    sends: VecDeque<Record>,
+    // The first of the sends where none stood before it: one record at a time touches no queue.
+    first: Option<Record>,
+    more: VecDeque<Record>,
     rejects: u64,
     keeps: bool,
     kept: VecDeque<Record>,
@@ -19,35 +22,26 @@ pub struct Sends {
 
 impl Model for Sends {
     ghost use Rattle.ff_node.specs.Sends.{Sent, IsCounted};
+    ghost use Rattle.std.specs.Prelude.{◌++◌};
+    ghost use Rattle.std.specs.Option.{option_to_list};
 
     ghost Value = { Sent };
 
-    ghost view = { λ s. record { sends = s.sends.items; rejects = s.rejects; keeps = s.keeps; kept = s.kept.items } };
+    ghost view = { λ s. record { sends = option_to_list s.first ++ s.more.items; rejects = s.rejects; keeps = s.keeps; kept = s.kept.items } };
 
-    ghost invariant = { λ s. IsCounted (record { sends = s.sends.items; rejects = s.rejects; keeps = s.keeps; kept = s.kept.items }) };
+    ghost invariant = { λ s. IsCounted (record { sends = option_to_list s.first ++ s.more.items; rejects = s.rejects; keeps = s.keeps; kept = s.kept.items }) };
 }
 
 impl Sends {
-    /// Nothing yet; rejects are counted alone.
-    pub fn counting(alloc: Global) -> Sends
-        ensures { result ≡ nothing_sent false }
+    /// Nothing yet. Rejects are counted, and where `keep` says so kept, too.
+    pub fn new(alloc: Global, keep: bool) -> Sends
+        ensures { result ≡ nothing_sent keep }
     {
         Sends {
-            sends: VecDeque::new(alloc),
+            first: None,
+            more: VecDeque::new(alloc),
             rejects: 0,
-            keeps: false,
-            kept: VecDeque::new(alloc),
-        }
-    }
-
-    /// Nothing yet; rejects are counted and kept.
-    pub fn keeping(alloc: Global) -> Sends
-        ensures { result ≡ nothing_sent true }
-    {
-        Sends {
-            sends: VecDeque::new(alloc),
-            rejects: 0,
-            keeps: true,
+            keeps: keep,
             kept: VecDeque::new(alloc),
         }
     }
@@ -57,7 +51,11 @@ impl Sends {
         ensures ok { OnOk result (self.new ≡ add self.old (r ∷ []) []) }
         ensures err { OnErr result (self.new ≡ self.old) }
     {
-        self.sends.push_back(r)?;
+        if self.first.is_none() && self.more.is_empty() {
+            self.first = Some(r);
+        } else {
+            self.more.push_back(r)?;
+        }
         Ok(())
     }
 
@@ -79,7 +77,7 @@ impl Sends {
     pub fn len(&self) -> usize
         ensures { result ≡ length self.now.sends }
     {
-        self.sends.len()
+        usize::from(self.first.is_some()) + self.more.len()
     }
 
     /// How many records were rejected, up to 2^64 - 1.
@@ -101,15 +99,50 @@ impl Sends {
     pub fn take_first(&mut self) -> Option<Record>
         ensures { TakesSend self.old result self.new }
     {
-        self.sends.pop_front()
+        match self.first.take() {
+            Some(r) => Some(r),
+            None => self.more.pop_front(),
+        }
     }
 
-    /// These in the place of what was sent, which comes back in theirs.
-    pub(crate) fn swap_sends(&mut self, other: &mut VecDeque<Record>)
-        ensures mine { self.new ≡ record self.old { sends = other.old.items } }
-        ensures theirs { other.new.items ≡ self.old.sends }
+    /// All records that were sent, at once. After a refusal nothing changed.
+    pub fn take_sends(&mut self) -> Result<Records, NoMemory>
+        ensures sent { IfOk result (λ sent. sent ≡ self.old.sends) }
+        ensures left { OnOk result (self.new ≡ rejects_alone self.old) }
+        ensures err { OnErr result (self.new ≡ self.old) }
     {
-        mem::swap(&mut self.sends, other);
+        Ok(Records::of(self.take_queue()?))
+    }
+
+    /// All records that were sent, as a queue. After a refusal nothing changed.
+    pub(crate) fn take_queue(&mut self) -> Result<VecDeque<Record>, NoMemory>
+        ensures sent { IfOk result (λ sent. sent.items ≡ self.old.sends) }
+        ensures left { OnOk result (self.new ≡ rejects_alone self.old) }
+        ensures err { OnErr result (self.new ≡ self.old) }
+    {
+        if let Some(r) = self.first.take() {
+            if let Err(refused) = self.more.push_front(r) {
+                self.first = Some(refused.value);
+                return Err(NoMemory);
+            }
+        }
+        let none = VecDeque::new(*self.more.allocator());
+        Ok(mem::replace(&mut self.more, none))
+    }
+
+    /// Puts these records in front of those that were sent. After `NoMemory` nothing is promised of the sends.
+    pub(crate) fn put_before(&mut self, mut before: VecDeque<Record>) -> Result<(), NoMemory>
+        ensures { OnOk result (self.new ≡ sent_before before.items self.old) }
+    {
+        if before.is_empty() {
+            return Ok(());
+        }
+        if let Some(r) = self.first.take() {
+            before.push_back(r)?;
+        }
+        before.append(&mut self.more)?;
+        self.more = before;
+        Ok(())
     }
 
     /// The first reject that is kept.
@@ -118,12 +151,26 @@ impl Sends {
     {
         self.kept.pop_front()
     }
+
+    /// All rejects that are kept, at once. Their number stays.
+    pub fn take_kept(&mut self) -> Records
+        ensures kept { result ≡ self.old.kept }
+        ensures left { self.new ≡ record self.old { kept = [] } }
+    {
+        let alloc = *self.kept.allocator();
+        Records::of(mem::replace(&mut self.kept, VecDeque::new(alloc)))
+    }
 }
 
 impl Kept for Sends {
     fn copy(&self) -> Result<Sends, NoMemory> {
+        let first = match &self.first {
+            Some(r) => Some(r.copy()?),
+            None => None,
+        };
         Ok(Sends {
-            sends: copies(&self.sends)?,
+            first,
+            more: copies(&self.more)?,
             rejects: self.rejects,
             keeps: self.keeps,
             kept: copies(&self.kept)?,

@@ -20,7 +20,7 @@ fn shows(r: Option<&Record>, bytes: &[u8]) -> bool {
 
 #[test]
 fn sends_that_count(rt: HostRuntime) -> Result<(), Fail> {
-    let mut out = Sends::counting(rt.alloc());
+    let mut out = Sends::new(rt.alloc(), false);
     out.send(record(&rt, b"a")?)?;
     out.reject(record(&rt, b"bad")?)?;
     out.send(record(&rt, b"b")?)?;
@@ -40,7 +40,7 @@ fn sends_that_count(rt: HostRuntime) -> Result<(), Fail> {
 
 #[test]
 fn sends_that_keep(rt: HostRuntime) -> Result<(), Fail> {
-    let mut out = Sends::keeping(rt.alloc());
+    let mut out = Sends::new(rt.alloc(), true);
     out.reject(record(&rt, b"bad")?)?;
     out.reject(record(&rt, b"worse")?)?;
     assert!(rt; out.keeps());

@@ -95,7 +95,7 @@ fn delay_of(most: u64) -> Delay {
 
 // What a node sends and rejects for these records.
 fn run<N: Node>(node: &mut N, input: &Records, rt: &HostRuntime) -> Result<Sends, Fail> {
-    let mut out = Sends::keeping(rt.alloc());
+    let mut out = Sends::new(rt.alloc(), true);
     node.svc_init();
     for k in 0..input.len() {
         if let Some(r) = input.get(k) {

@@ -1,16 +1,38 @@
-use Rattle.std.proofs.Common.{◌∙◌}
+use Rattle.std.proofs.Common.{◌≡◌, ◌+◌, ◌-◌, ◌<◌, ◌∙◌, length, ap, arith}
 use Rattle.ff_node.specs.Comb.{part}
-use Rattle.ff_node.proofs.PartsSteps.{part_after-feed, add-feed}
+use Rattle.ff_node.proofs.HandsOn.{HandsOn-some, HandsOn-dropped, HandsOn-fed}
 use Rattle.ff_node.proofs.parts.feed.Goals as goal
+use Rattle.ff_node.proofs.parts.feed.Goals.{then-not-ended+in_ok-node_step, else-not-ended}
 
-pub loop-r-preserved-then-not-ended : goal.loop-r-preserved-then-not-ended
-loop-r-preserved-then-not-ended g c =
+pub returns-in_default-clause-state : goal.returns-in_default-clause-state
+returns-in_default-clause-state g c =
+    let left : 0 < length c.args.out.now.sends - c.loop-taken._taken = omega (arith, c.loop-taken-test.true, c.len-taken-end.ensures) in
+    absurd (HandsOn-some g.N.Node.does (part c.args.node.now c.args.ended.now) c.args.out.now (length c.args.out.now.sends - c.loop-taken._taken)
+    (part c.loop-taken.node c.loop-taken.ended) c.loop-taken.out c.loop-taken.invariant.on left c.in_default.ensures.0)
+
+pub returns-in_default-clause-sends : goal.returns-in_default-clause-sends
+returns-in_default-clause-sends g c =
+    let left : 0 < length c.args.out.now.sends - c.loop-taken._taken = omega (arith, c.loop-taken-test.true, c.len-taken-end.ensures) in
+    absurd (HandsOn-some g.N.Node.does (part c.args.node.now c.args.ended.now) c.args.out.now (length c.args.out.now.sends - c.loop-taken._taken)
+    (part c.loop-taken.node c.loop-taken.ended) c.loop-taken.out c.loop-taken.invariant.on left c.in_default.ensures.0)
+
+pub loop-taken-preserved : goal.loop-taken-preserved
+loop-taken-preserved g c =
     let b = g.N.Node.does in
-    let q = part c.step.new.node c.in_ok-ended.field-0 in
-    record {
-      kind = c.in_ok-ended.ensures.kind ∙ c.loop-r.invariant.kind;
-      state = part_after-feed b c.loop-r.node c.loop-r.ended c.in-Some.r c.pop_front.new.self.items c.loop-r.given.items q
-          c.if-not-ended.true c.in-Some.ensures.items c.in_ok-ended.ensures.state ∙ c.loop-r.invariant.state;
-      sends = add-feed b c.loop-r.node c.loop-r.ended c.in-Some.r c.pop_front.new.self.items c.loop-r.given.items q c.loop-r.out c.step.new.out
-          c.if-not-ended.true c.in-Some.ensures.items c.in_ok-ended.ensures.state c.in_ok-ended.ensures.sends ∙ c.loop-r.invariant.sends;
-    }
+    let all = length c.args.out.now.sends in
+    let k = c.loop-taken._taken in
+    let one : all - k ≡ all - (k + 1) + 1 = omega (arith, c.loop-taken-test.true, c.len-taken-end.ensures) in
+    elim c.if-not-ended.branch [
+      | then-not-ended+in_ok-node_step w ↦ record {
+        kind = ap b.opening w.node-is ∙ w.in_ok-node_step.ensures.kind ∙ c.loop-taken.invariant.kind;
+        on = HandsOn-fed b (part c.args.node.now c.args.ended.now) c.args.out.now (all - k) (all - (k + 1)) c.loop-taken.node c.loop-taken.ended c.loop-taken.out
+            c.take_first.new.self c.in-Some.r c.loop-taken.invariant.on one c.in-Some.ensures c.if-not-ended.node w.node_step.new.node w.in_ok-node_step.field-0
+            c.if-not-ended.ended c.if-not-ended.out w.node_step.new.out w.if-not-ended.true w.in_ok-node_step.ensures.fed w.node-is (w.ended-is ∙ w.is_eos.ensures) w.out-is;
+      }
+      | else-not-ended w ↦ record {
+        kind = ap b.opening w.node-is ∙ c.loop-taken.invariant.kind;
+        on = HandsOn-dropped b (part c.args.node.now c.args.ended.now) c.args.out.now (all - k) (all - (k + 1)) c.loop-taken.node c.loop-taken.ended c.loop-taken.out
+            c.take_first.new.self c.in-Some.r c.loop-taken.invariant.on one c.in-Some.ensures c.if-not-ended.node c.if-not-ended.ended c.if-not-ended.out
+            w.if-not-ended.false w.node-is w.ended-is w.out-is;
+      }
+    ]
