@@ -1,5 +1,5 @@
 -- The loop over the records that are given to a part: they stand before what the part sends for them.
-use Rattle.std.proofs.Common.{◌≡◌, ℕ, ◌+◌, ◌-◌, ◌<◌, Bool, true, false, if◌then◌else◌, List, [], ◌∷◌, ◌++◌, length, refl, sym, ap, ap₂, subst, ◌∙◌, append_assoc, append-nil, length-append, arith}
+use Rattle.std.proofs.Common.{◌≡◌, ℕ, ◌+◌, ◌<◌, Bool, true, false, if◌then◌else◌, List, [], ◌∷◌, ◌++◌, length, refl, sym, ap, ap₂, subst, ◌∙◌, append_assoc, append-nil, length-append, arith}
 use Rattle.ff_rec.specs.Lines.{Rec}
 use Rattle.ff_node.specs.Behaviour.{Behaviour}
 use Rattle.ff_node.specs.Comb.{Part, part, given_from, given_rejected, part_from, part_sends, part_rejects, part_after}

@@ -1,11 +1,11 @@
 -- Steps of the loops over a comb's parts.
-use Rattle.std.proofs.Common.{◌≡◌, ℕ, zero, suc, ◌+◌, ◌<◌, ◌≤◌, Bool, true, false, if◌then◌else◌, List, [], ◌∷◌, ◌++◌, map, length, take, drop, set, get_or, refl, sym, ap, ap₂, ◌∙◌, append_assoc, append-nil, add-one, arith}
+use Rattle.std.proofs.Common.{◌≡◌, ℕ, zero, suc, ◌+◌, ◌<◌, ◌≤◌, Bool, true, false, List, [], ◌∷◌, ◌++◌, map, length, take, drop, set, get_or, refl, sym, ap, ap₂, ◌∙◌, append_assoc, append-nil, add-one, arith}
 use Rattle.ff_rec.specs.Lines.{Rec}
 use Rattle.ff_node.specs.Behaviour.{Behaviour}
 use Rattle.ff_node.specs.Sends.{Sent, add, rejects_alone}
 use Rattle.ff_node.specs.Passing.{fed, fed_last, passed, passed_last}
 use Rattle.ff_node.specs.Comb.{Part, part, parts, given_from, given_rejected, part_from, part_sends, part_rejects, part_after, part_total, part_total_rejects, through, through_rejects, through_after, total, total_rejects}
-use Rattle.ff_node.specs.CombParts.{given_from-append, given_rejected-append, part_from-append, part_sends-total, part_rejects-total}
+use Rattle.ff_node.specs.CombPartLaws.{given_from-append, given_rejected-append, part_from-append, part_sends-total, part_rejects-total}
 use Rattle.ff_node.proofs.SendsLaws.{add-add, add-nothing, add-sends}
 
 -- each element replaced by what `f` makes of it, one place further

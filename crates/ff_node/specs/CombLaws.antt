@@ -6,7 +6,7 @@ use Rattle.ff_rec.specs.Weights.{weigh, Same}
 use Rattle.ff_rec.proofs.WeightLaws.{weigh-append}
 use Rattle.ff_node.specs.Behaviour.{Behaviour, node, node_rejected, pipeline, pipeline_rejected, sent_from, rejected_from, state_from}
 use Rattle.ff_node.specs.Comb.{Part, part, part_sends, part_rejects, part_after, part_total, part_total_rejects, through, through_rejects, through_after, total, total_rejects, opened, first_ended, comb_node, nodes_of, CombIsPipeline, CombEndsWithFirst}
-use Rattle.ff_node.specs.CombParts.{part_sends-total, part_rejects-total, part_sends-append, part_after-append}
+use Rattle.ff_node.specs.CombPartLaws.{part_sends-total, part_rejects-total, part_sends-append, part_after-append}
 
 module _ {N : Type 0} (b : Behaviour N) where
   -- what carries all: records in two steps through all parts

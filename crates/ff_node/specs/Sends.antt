@@ -1,5 +1,5 @@
 -- What a node's calls gather: the records sent, and those rejected.
-use Rattle.std.specs.Prelude.{◌≡◌, ℕ, ◌+◌, ◌-◌, ◌^◌, ◌≤◌, min, Bool, true, false, List, [], ◌∷◌, ◌++◌, length, Option, None, Some}
+use Rattle.std.specs.Prelude.{◌≡◌, ℕ, ◌≤◌, Bool, true, false, List, [], ◌∷◌, ◌++◌, length, Option, None, Some}
 use Rattle.ff_rec.specs.Lines.{Rec}
 pub use Rattle.ff_rec.specs.Counts.{count_more, counted}
 

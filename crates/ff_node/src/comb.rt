@@ -44,8 +44,8 @@ impl<N: Node> Comb<N> {
 
 impl<N: Node> Node for Comb<N> {
     ghost use Rattle.ff_node.specs.Comb.{comb_node};
-    ghost use Rattle.ff_node.specs.CombKind.{comb_keeps_kind};
-    ghost use Rattle.ff_node.specs.CombClasses.{comb_class_law};
+    ghost use Rattle.ff_node.specs.CombKindLaws.{comb_keeps_kind};
+    ghost use Rattle.ff_node.specs.CombClassLaws.{comb_class_law};
 
     ghost does = { comb_node N.does };
 

@@ -18,7 +18,7 @@ pub trait Node: Drop {
     fn class(&self) -> Class
         ensures { result ≡ does.class self.now };
 
-    /// The same node in its opening state.
+    /// A copy of it in its opening state.
     fn copy(&self) -> Result<Self, NoMemory>
         ensures { IfOk result (λ other. other ≡ does.opening self.now) };
 

@@ -48,7 +48,7 @@ pub(crate) fn close<N: Node>(nodes: &mut [N])
     }
 }
 
-/// The same nodes in their opening states.
+/// Copies of these nodes in their opening states.
 pub(crate) fn copies<N: Node>(nodes: &Vec<N>) -> Result<Vec<N>, NoMemory>
     ensures { IfOk result (λ other. other.items ≡ map N.does.opening nodes.now.items) }
 {

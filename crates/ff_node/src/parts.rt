@@ -24,7 +24,7 @@ fn feed<N: Node>(node: &mut N, ended: &mut bool, out: &mut Sends) -> Result<(), 
     Ok(())
 }
 
-// The same at the end: then its last records, unless it has ended by itself.
+// The last records in `out` to a part, and then its end, unless it has ended by itself.
 fn end<N: Node>(node: &mut N, ended: &mut bool, out: &mut Sends) -> Result<(), NoMemory>
     ensures kind { N.does.opening node.new ≡ N.does.opening node.old }
     ensures sends { OnOk result (out.new ≡ fed_last N.does (part node.old ended.old) out.old) }

@@ -1,7 +1,7 @@
-// Three small nodes run as one, beside the same three run one after another.
+// Small nodes run as one.
 use super::{record, shows};
-use crate::{Class, Comb, Next, Node, Records, Sends};
-use ff_rec::{Kept, NoMemory, Record};
+use crate::{Class, Comb, Next, Node, Records, Sends, node_end, node_step};
+use ff_rec::{NoMemory, Record};
 use std::test::Fail;
 
 // Rejects its first record, holds each other one back until the next one comes or the end, and ends after `most` records.
@@ -93,82 +93,62 @@ fn delay_of(most: u64) -> Delay {
     }
 }
 
-// What a node sends and rejects for these records.
-fn run<N: Node>(node: &mut N, input: &Records, rt: &HostRuntime) -> Result<Sends, Fail> {
+fn parts_of(rt: &HostRuntime, most: &[u64]) -> Result<Vec<Delay>, Fail> {
+    let mut parts = Vec::new(rt.alloc());
+    for most in most {
+        parts.push(delay_of(*most))?;
+    }
+    Ok(parts)
+}
+
+// What a comb sends and rejects for `a` to `f`, behind an `x` that was sent before.
+fn run(mut comb: Comb<Delay>, rt: &HostRuntime) -> Result<Sends, Fail> {
     let mut out = Sends::new(rt.alloc(), true);
-    node.svc_init();
-    for k in 0..input.len() {
-        if let Some(r) = input.get(k) {
-            if let Next::Eos = node.svc(r.copy()?, &mut out)? {
-                break;
-            }
+    out.send(record(rt, b"x")?)?;
+    comb.svc_init();
+    for name in [b"a", b"b", b"c", b"d", b"e", b"f"] {
+        if node_step(&mut comb, record(rt, name)?, &mut out)?.is_eos() {
+            return Ok(out);
         }
     }
-    node.eos_notify(&mut out)?;
-    node.svc_end();
+    node_end(&mut comb, &mut out)?;
     Ok(out)
 }
 
-// The records that were sent.
-fn sent(out: &mut Sends, rt: &HostRuntime) -> Result<Records, Fail> {
-    let mut list = Records::new(rt.alloc());
-    for _ in 0..out.len() {
-        if let Some(r) = out.take_first() {
-            list.push(r)?;
+// Whether these are records of one field each, with these bytes.
+fn are(records: &Records, fields: &[&[u8]]) -> bool {
+    if records.len() != fields.len() {
+        return false;
+    }
+    for (k, field) in fields.iter().enumerate() {
+        if !shows(records.get(k), field) {
+            return false;
         }
     }
-    Ok(list)
+    true
 }
 
 #[test]
-fn a_comb_and_its_nodes_in_turn(rt: HostRuntime) -> Result<(), Fail> {
-    let mut input = Records::new(rt.alloc());
-    for name in [b"a", b"b", b"c", b"d", b"e", b"f"] {
-        input.push(record(&rt, name)?)?;
+fn combs(rt: HostRuntime) -> Result<(), Fail> {
+    // After how many records each part ends, what comes out, and what the parts reject: each its first record.
+    let cases: [(&[u64], &[&[u8]], &[&[u8]]); 4] = [
+        (&[100], &[b"x", b"b", b"c", b"d", b"e", b"f"], &[b"a"]),
+        (&[100, 100], &[b"x", b"c", b"d", b"e", b"f"], &[b"a", b"b"]),
+        // The middle part ends by itself at its third record, and sends what it held.
+        (&[100, 3, 100], &[b"x", b"d"], &[b"a", b"b", b"c"]),
+        // The first part ends at its second record, and the comb with it.
+        (&[2, 100], &[b"x"], &[b"a", b"b"]),
+    ];
+    for (most, sent, rejected) in cases {
+        let parts = parts_of(&rt, most)?;
+        assert!(rt; !parts.is_empty());
+        assert!(rt; parts.len() <= 64);
+        let comb = Comb::new(parts);
+        assert!(rt; comb.class() == Class::Ordered);
+        let mut out = run(comb.copy()?, &rt)?;
+        assert!(rt; are(&out.take_sends()?, sent));
+        assert_eq!(rt; out.rejects(), rejected.len() as u64);
+        assert!(rt; are(&out.take_kept(), rejected));
     }
-
-    // Alone, each on what the one before it sent.
-    let mut first = run(&mut delay_of(100), &input, &rt)?;
-    let mut second = run(&mut delay_of(3), &sent(&mut first, &rt)?, &rt)?;
-    let mut third = run(&mut delay_of(100), &sent(&mut second, &rt)?, &rt)?;
-
-    let mut parts = Vec::new(rt.alloc());
-    parts.push(delay_of(100))?;
-    parts.push(delay_of(3))?;
-    parts.push(delay_of(100))?;
-    let mut comb = Comb::new(parts);
-    assert!(rt; comb.class() == Class::Ordered);
-    let mut all = run(&mut comb, &input, &rt)?;
-
-    // The middle node ended by itself at its third record, and sent what it held.
-    assert_eq!(rt; third.len(), 1);
-    assert_eq!(rt; all.len(), 1);
-    assert!(rt; shows(third.take_first().as_ref(), b"d"));
-    assert!(rt; shows(all.take_first().as_ref(), b"d"));
-
-    // Each node rejected its first record.
-    assert!(rt; shows(first.take_reject().as_ref(), b"a"));
-    assert!(rt; shows(second.take_reject().as_ref(), b"b"));
-    assert!(rt; shows(third.take_reject().as_ref(), b"c"));
-    assert_eq!(rt; all.rejects(), 3);
-    assert!(rt; shows(all.take_reject().as_ref(), b"a"));
-    assert!(rt; shows(all.take_reject().as_ref(), b"b"));
-    assert!(rt; shows(all.take_reject().as_ref(), b"c"));
-    Ok(())
-}
-
-#[test]
-fn last_records_pass_through(rt: HostRuntime) -> Result<(), Fail> {
-    let mut input = Records::new(rt.alloc());
-    for name in [b"a", b"b", b"c"] {
-        input.push(record(&rt, name)?)?;
-    }
-    let mut parts = Vec::new(rt.alloc());
-    parts.push(delay_of(100))?;
-    parts.push(delay_of(100))?;
-    let mut comb = Comb::new(parts).copy()?;
-    let mut all = run(&mut comb, &input, &rt)?;
-    assert_eq!(rt; all.len(), 1);
-    assert!(rt; shows(all.take_first().as_ref(), b"c"));
     Ok(())
 }

@@ -9,8 +9,8 @@ use Rattle.ff_node.specs.Classes.{IsFoldNode, IsKeyedNode, ClassLaw}
 use Rattle.ff_node.specs.OnLists.{GoesByCounts}
 use Rattle.ff_node.specs.OnListsLaws.{plain-law, keyed-law, GoesByCounts-plain, GoesByCounts-fold}
 use Rattle.ff_node.specs.Comb.{Part, joint_class, part_classes, comb_node}
-use Rattle.ff_node.specs.CombFolds.{ArePlain, HasFold, GoByCounts, IsPlainNode-comb, IsFoldNode-comb, IsKeyedNode-comb}
-use Rattle.ff_node.specs.JointClass.{IsUnordered, IsFolding, HasFolding, joined_class-plain, joined_class-unordered, joined_class-folding, joined_class-keyed}
+use Rattle.ff_node.specs.CombFoldLaws.{ArePlain, HasFold, GoByCounts, IsPlainNode-comb, IsFoldNode-comb, IsKeyedNode-comb}
+use Rattle.ff_node.specs.JointClassLaws.{IsUnordered, IsFolding, HasFolding, joined_class-plain, joined_class-unordered, joined_class-folding, joined_class-keyed}
 
 module _ {N : Type 0} (b : Behaviour N) (law : (o : N) → ClassLaw b o (b.class o)) where
   counts-law : (o : N) → IsUnordered (b.class o) → GoesByCounts b o

@@ -12,7 +12,7 @@ use Rattle.ff_node.specs.OnLists.{GoesByCounts}
 use Rattle.ff_node.specs.OnListsLaws.{GoesByCounts-plain, GoesByCounts-fold}
 use Rattle.ff_node.specs.Comb.{Part, given_from, part_from, part_sends, through, through_rejects, through_after, total, total_rejects, opened, first_ended, comb_node, nodes_of}
 use Rattle.ff_node.specs.CombLaws.{node-comb, node_rejected-comb, state_from-opened}
-use Rattle.ff_node.specs.CombStates.{part_after-ended, part_sends-plain, part_rejects-plain, part_total-plain, part_total_rejects-plain, part_sends-fold, on-plain, on-fold}
+use Rattle.ff_node.specs.CombStateLaws.{part_after-ended, part_sends-plain, part_rejects-plain, part_total-plain, part_total_rejects-plain, part_sends-fold, on-plain, on-fold}
 
 -- functions that agree
 flat_map-≡ : {A B : Type 0} (g h : A → List B) → ((x : A) → g x ≡ h x) → (xs : List A) → flat_map g xs ≡ flat_map h xs
