@@ -53,7 +53,8 @@ pub trait Outbox<T> {
     fn try_put(&mut self, m: Msg<T>) -> Put<T>
         requires { IsOpen (put self.old) }
         ensures link { link self.new ≡ link self.old }
-        ensures puts { Puts grows (put self.old) (room self.old) m result (put self.new) (room self.new) };
+        ensures puts { Puts grows (put self.old) (room self.old) m result
+            (put self.new) (room self.new) };
 
     /// Hands over what waits on the writer's side, as far as there is room. It answers whether nothing is left.
     fn flush(&mut self) -> bool

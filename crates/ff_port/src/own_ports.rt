@@ -86,9 +86,12 @@ impl<I: Inbox<T>, O: Outbox<T>, T> Ports<T> for OwnPorts<I, O, T> {
     fn try_put(&mut self, k: usize, m: Msg<T>) -> Put<T>
         requires within { k < length (map O.put self.old.outs.items) }
         requires inner { IsOpen (at (map O.put self.old.outs.items) k) }
-        ensures link { links_of I.link O.link self.new.ins.items self.new.outs.items ≡ links_of I.link O.link self.old.ins.items self.old.outs.items }
-        ensures puts { PutsAt O.grows k (map O.put self.old.outs.items) (map O.room self.old.outs.items) m result (map O.put self.new.outs.items) (map O.room self.new.outs.items) }
-        ensures others { OthersStay k (map O.room self.old.outs.items) (map O.room self.new.outs.items) }
+        ensures link { links_of I.link O.link self.new.ins.items self.new.outs.items
+            ≡ links_of I.link O.link self.old.ins.items self.old.outs.items }
+        ensures puts { PutsAt O.grows k (map O.put self.old.outs.items) (map O.room self.old.outs.items)
+            m result (map O.put self.new.outs.items) (map O.room self.new.outs.items) }
+        ensures others { OthersStay k (map O.room self.old.outs.items)
+            (map O.room self.new.outs.items) }
         ensures gots { map I.got self.new.ins.items ≡ map I.got self.old.ins.items }
         ensures knowns { map I.known self.new.ins.items ≡ map I.known self.old.ins.items }
     {
@@ -104,9 +107,11 @@ impl<I: Inbox<T>, O: Outbox<T>, T> Ports<T> for OwnPorts<I, O, T> {
 fn take_at<I: Inbox<T>, T>(ins: &mut Vec<I>, k: usize) -> Option<Msg<T>>
     requires { k < length ins.old.items }
     ensures link { map I.link ins.new.items ≡ map I.link ins.old.items }
-    ensures takes { TakesAt k (map I.got ins.old.items) (map I.known ins.old.items) result (map I.got ins.new.items) (map I.known ins.new.items) }
+    ensures takes { TakesAt k (map I.got ins.old.items) (map I.known ins.old.items) result
+        (map I.got ins.new.items) (map I.known ins.new.items) }
     ensures others { OthersStay k (map I.known ins.old.items) (map I.known ins.new.items) }
-    ensures counted { count_of I.got ins.new.items ≡ count_of I.got ins.old.items + length (option_to_list result) }
+    ensures counted { count_of I.got ins.new.items
+        ≡ count_of I.got ins.old.items + length (option_to_list result) }
 {
     ins[k].try_take()
 }
@@ -116,7 +121,8 @@ fn put_at<O: Outbox<T>, T>(outs: &mut Vec<O>, k: usize, m: Msg<T>) -> Put<T>
     requires within { k < length outs.old.items }
     requires inner { IsOpen (at (map O.put outs.old.items) k) }
     ensures link { map O.link outs.new.items ≡ map O.link outs.old.items }
-    ensures puts { PutsAt O.grows k (map O.put outs.old.items) (map O.room outs.old.items) m result (map O.put outs.new.items) (map O.room outs.new.items) }
+    ensures puts { PutsAt O.grows k (map O.put outs.old.items) (map O.room outs.old.items)
+        m result (map O.put outs.new.items) (map O.room outs.new.items) }
     ensures others { OthersStay k (map O.room outs.old.items) (map O.room outs.new.items) }
 {
     outs[k].try_put(m)

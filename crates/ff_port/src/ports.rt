@@ -44,7 +44,8 @@ pub trait Ports<T> {
     fn try_take(&mut self, k: usize) -> Option<Msg<T>>
         requires { k < length (gots self.old) }
         ensures link { link self.new ≡ link self.old }
-        ensures takes { TakesAt k (gots self.old) (knowns self.old) result (gots self.new) (knowns self.new) }
+        ensures takes { TakesAt k (gots self.old) (knowns self.old) result
+            (gots self.new) (knowns self.new) }
         ensures others { OthersStay k (knowns self.old) (knowns self.new) }
         ensures puts { puts self.new ≡ puts self.old }
         ensures rooms { rooms self.new ≡ rooms self.old }
@@ -55,7 +56,8 @@ pub trait Ports<T> {
         requires within { k < length (puts self.old) }
         requires inner { IsOpen (at (puts self.old) k) }
         ensures link { link self.new ≡ link self.old }
-        ensures puts { PutsAt grows k (puts self.old) (rooms self.old) m result (puts self.new) (rooms self.new) }
+        ensures puts { PutsAt grows k (puts self.old) (rooms self.old) m result
+            (puts self.new) (rooms self.new) }
         ensures others { OthersStay k (rooms self.old) (rooms self.new) }
         ensures gots { gots self.new ≡ gots self.old }
         ensures knowns { knowns self.new ≡ knowns self.old };

@@ -3,22 +3,14 @@ ghost use Rattle.std.specs.Prelude.{◌≡◌, OnOk};
 ghost use Rattle.ff_rec.specs.Streams.{IsOpen};
 ghost use Rattle.ff_port.specs.Queues.{put_of};
 
-use crate::{Inbox, Outbox, OwnPorts, PlainQueue, Ports, Put};
-use ff_rec::{Kept, Msg, NoMemory};
+use crate::{Inbox, Msg, Outbox, OwnPorts, PlainQueue, Ports, Put};
+use ff_rec::NoMemory;
 use std::test::Fail;
 
-// A piece of work.
+// A piece of work, which can't be copied.
 #[derive(Debug, Drop)]
 struct Token {
     number: u64,
-}
-
-impl Kept for Token {
-    fn copy(&self) -> Result<Token, NoMemory> {
-        Ok(Token {
-            number: self.number,
-        })
-    }
 }
 
 // Puts the item of this number, and tells whether there was room.
