@@ -1,14 +1,4 @@
 pub mod StageNodes
-pub mod StageCalls
-pub mod StageKind
-pub mod StageRuns
-pub mod Messages
-pub mod Answer
-pub mod StageTied
-pub mod StageTakes
-pub mod StageKept
-pub mod StageBegins
-pub mod StageFits
-pub mod Refusal
-pub mod StageRefusals
-pub mod StageRejects
+pub mod StageFields
+pub mod UnitRuns
+pub mod UnitAborts

@@ -1,4 +1,20 @@
+pub mod Units
 pub mod Stage
 pub mod StageSteps
 pub mod StagePorts
 pub mod StageParts
+pub mod StageUnit
+-- lemmas: nothing to trust
+pub mod MessageLaws
+pub mod AnswerLaws
+pub mod RefusalLaws
+pub mod StageKindLaws
+pub mod StageTiedLaws
+pub mod StageTakesLaws
+pub mod StageKeptLaws
+pub mod StageBeginsLaws
+pub mod StageFitsLaws
+pub mod StageRefusalLaws
+pub mod StageRejectLaws
+pub mod StageAbortLaws
+pub mod StageLaws

@@ -11,7 +11,7 @@ use Rattle.ff_node.specs.declared.class.Next.{Next}
 use Rattle.ff_node.specs.declared.class.Next.TheVariants.{GoOn, Eos as EosNext}
 use Rattle.ff_port.specs.declared.answers.End.{End}
 use Rattle.ff_unit.specs.Stage.{StageState}
-use Rattle.ff_unit.specs.declared.stage.Mode.TheVariants.{Cut}
+use Rattle.ff_unit.specs.declared.mode.Mode.TheVariants.{Cut}
 
 -- what is held: a message in front, records that were sent, and a message behind
 abbrev pub held_of : Option Message → List Rec → Option Message → List Message
@@ -31,4 +31,4 @@ Feeds b n out x EosNext n' out' =
 
 -- Abort alone is held, and nothing of the sends and rejects is left
 abbrev pub given_up : {N : Type 0} → StageState N → Bool → Option End → StageState N
-given_up u keeps fin = record { node = u.node; held = AbortMsg ∷ []; mode = Cut; fin = fin; done = u.done; rejects = 0; keeps = keeps; kept = [] }
+given_up u keeps fin = record { node = u.node; held = AbortMsg ∷ []; mode = Cut; fin = fin; done = u.done; told = u.told; rejects = 0; keeps = keeps; kept = []; taken = u.taken }

@@ -1,5 +1,5 @@
 -- How a stage steps.
-use Rattle.std.specs.Prelude.{◌≡◌, ◌⊎◌, Bool, true, false, if◌then◌else◌, List, [], ◌∷◌, ◌++◌, Option, None, Some, IsSome}
+use Rattle.std.specs.Prelude.{◌≡◌, ◌⊎◌, true, if◌then◌else◌, List, [], ◌∷◌, ◌++◌, Option, None, Some, IsSome}
 use Rattle.ff_rec.specs.Lines.{Rec}
 use Rattle.ff_rec.specs.Streams.{IsOpenMsg, carried}
 use Rattle.ff_rec.specs.declared.msg.Msg.TheVariants.{Item, Mark, Pick, Eos as EosMsg, Abort as AbortMsg}
@@ -8,11 +8,9 @@ use Rattle.ff_node.specs.Runs.{Message, Act, Took, Gave, Refused, Idle, Told, Ha
 use Rattle.ff_node.specs.Sends.{count_more, kept_of}
 use Rattle.ff_port.specs.declared.answers.End.{End}
 use Rattle.ff_port.specs.declared.answers.End.TheVariants.{Eos, Abort, Memory}
-use Rattle.ff_port.specs.declared.answers.Step.{Step}
-use Rattle.ff_port.specs.declared.answers.Step.TheVariants.{Moved, Waits, Ended}
 use Rattle.ff_unit.specs.Stage.{StageState}
-use Rattle.ff_unit.specs.declared.stage.Mode.{Mode}
-use Rattle.ff_unit.specs.declared.stage.Mode.TheVariants.{Live, Shut, Cut}
+use Rattle.ff_unit.specs.declared.mode.Mode.{Mode}
+use Rattle.ff_unit.specs.declared.mode.Mode.TheVariants.{Live, Shut, Cut}
 
 -- a live node goes on after a record: its sends are held
 abbrev pub goes_on : {N : Type 0} → Behaviour N → StageState N → Rec → StageState N
@@ -47,6 +45,8 @@ pub record GivesUp {N : Type 0} (b : Behaviour N) (u : StageState N) (fin : Opti
   pub fin_is : v.fin ≡ fin
   pub done : v.done ≡ u.done
   pub keeps : v.keeps ≡ u.keeps
+  pub told : v.told ≡ u.told
+  pub taken : v.taken ≡ u.taken
 
 -- the end of a unit that was refused memory, once its in has ended
 abbrev pub short_fin : Option End → Option End
@@ -91,26 +91,14 @@ abbrev pub IsOpenFront : List Message → Type 0
 IsOpenFront [] = ⊥
 IsOpenFront (m ∷ ms) = IsOpenMsg m
 
--- one act of a stage: it puts the first message that it holds; where it holds none and its end isn't decided, it takes
+-- one act of a stage: it puts the first message that it holds; where it holds none and its end isn't decided, it takes; a
+-- reject that it keeps may be taken out at any time
 abbrev pub StageStep : {N : Type 0} → Behaviour N → StageState N → Act → StageState N → Type 0
 StageStep b u (Took k m) v = (k ≡ 0) × (u.held ≡ []) × (u.fin ≡ None) × StageTakes b u.mode u m v
 StageStep b u (Gave k m) v = (k ≡ 0) × (u.held ≡ m ∷ v.held) × (v ≡ record u { held = v.held })
 StageStep b u Refused v = IsOpenFront u.held × (v ≡ drops u)
 StageStep b u Idle v = (v ≡ u) ⊎ ((u.held ≡ []) × IsSome u.fin × (v ≡ record u { done = true }))
-StageStep b u Told v = (u.held ≡ []) × (u.mode ≡ Live) × (u.fin ≡ None) × (v ≡ record u { held = AbortMsg ∷ []; mode = Cut; fin = Some Abort })
-StageStep b u (Handed x) v = u ≡ record v { kept = x ∷ v.kept }
-
--- the answer of a unit that neither took nor gave
-abbrev pub idle_answer : Bool → Option End → Step
-idle_answer true (Some fin) = Ended fin
-idle_answer true None = Waits
-idle_answer false fin = Waits
-
--- what a step answers
-abbrev pub StageAnswers : {N : Type 0} → StageState N → Act → Step → Type 0
-StageAnswers v (Took k m) answer = answer ≡ Moved
-StageAnswers v (Gave k m) answer = answer ≡ Moved
-StageAnswers v Refused answer = answer ≡ Moved
-StageAnswers v Idle answer = answer ≡ idle_answer v.done v.fin
-StageAnswers v Told answer = ⊥
-StageAnswers v (Handed x) answer = ⊥
+StageStep b u Told v =
+    (u.held ≡ []) × (u.mode ≡ Live) × (u.fin ≡ None)
+    × (v ≡ record u { held = AbortMsg ∷ []; mode = Cut; fin = Some Abort; told = true })
+StageStep b u (Handed x) v = (u.kept ≡ x ∷ v.kept) × (v ≡ record u { kept = v.kept; taken = u.taken ++ x ∷ [] })

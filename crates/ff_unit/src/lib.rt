@@ -1,6 +1,12 @@
-//! The units of a network that work on one stream: a stage runs a node between its in and its out.
+//! The units of a network: what each of them is seen as and promises, and those that work on one stream. A stage runs a node
+//! between its in and its out.
 #![tactic(auto)]
 
+mod aborts;
+mod mode;
 mod stage;
+mod unit;
 
+pub use mode::Mode;
 pub use stage::Stage;
+pub use unit::Unit;

@@ -4,9 +4,10 @@ ghost use Rattle.ff_rec.specs.declared.msg.Msg.TheVariants.{Abort as AbortMsg};
 ghost use Rattle.ff_unit.specs.StageParts.{given_up};
 ghost use Rattle.ff_unit.specs.StageSteps.{GivesUp, works, closes, LiveTakes, ShutTakes, CutTakes, StageTakes};
 
+use super::Stage;
 use super::held::no_sends;
 use super::nodes::{end_node, feed};
-use super::{Mode, Stage};
+use crate::Mode;
 use ff_node::{Next, Node};
 use ff_port::End;
 use ff_rec::{Msg, Record};
@@ -107,8 +108,8 @@ impl<N: Node> Stage<N> {
         self.fin = fin;
     }
 
-    /// Cuts the stream off, while nothing is held.
-    pub(super) fn cut(&mut self, fin: Option<End>)
+    // Cuts the stream off, while nothing is held.
+    fn cut(&mut self, fin: Option<End>)
         requires { self.old.held ≡ [] }
         ensures { self.new ≡ record self.old { held = AbortMsg ∷ []; mode = Mode.Cut; fin = fin } }
     {

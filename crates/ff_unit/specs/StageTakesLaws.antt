@@ -10,11 +10,11 @@ use Rattle.ff_port.specs.declared.answers.End.{End}
 use Rattle.ff_port.specs.declared.answers.End.TheVariants.{Eos, Abort, Memory}
 use Rattle.ff_unit.specs.Stage.{StageState}
 use Rattle.ff_unit.specs.StageSteps.{StageTakes, LiveTakes, ShutTakes, CutTakes, GivesUp, works}
-use Rattle.ff_unit.specs.declared.stage.Mode.{Mode}
-use Rattle.ff_unit.specs.declared.stage.Mode.TheVariants.{Live, Shut, Cut}
-use Rattle.ff_unit.proofs.Answer.{answer}
-use Rattle.ff_unit.proofs.Messages.{IsOpen-append, IsOpen-carried}
-use Rattle.ff_unit.proofs.StageTied.{TiedLive, TiedShut, TiedCut, TiedAt, TiedTo, EndsIn, IsCutEnd, Begun-cut}
+use Rattle.ff_unit.specs.declared.mode.Mode.{Mode}
+use Rattle.ff_unit.specs.declared.mode.Mode.TheVariants.{Live, Shut, Cut}
+use Rattle.ff_unit.specs.AnswerLaws.{answer}
+use Rattle.ff_unit.specs.MessageLaws.{IsOpen-append, IsOpen-carried}
+use Rattle.ff_unit.specs.StageTiedLaws.{TiedLive, TiedShut, TiedCut, TiedAt, TiedTo, EndsIn, IsCutEnd, Begun-cut}
 
 module _ {N : Type 0} (b : Behaviour N) (o : N) (g p : List Message) where
   -- the answer is as before where a message of the rest is taken

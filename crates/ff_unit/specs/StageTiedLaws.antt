@@ -1,7 +1,7 @@
 -- What ties the ports of a stage to its state, by its mode. `o` is the opening state of its node, `g` what it took, and `t` what
 -- it put with what it holds.
 use Rattle.std.proofs.Common.{◌≡◌, true, List, [], ◌∷◌, ◌++◌, Option, None, Some, refl, ap, ◌∙◌, subst, append_assoc}
-use Rattle.std.specs.Prelude.{IsSome}
+use Rattle.std.specs.Prelude.{IsSome, ◌⊎◌}
 use Rattle.ff_rec.specs.Streams.{IsOpen, closed}
 use Rattle.ff_rec.specs.declared.msg.Msg.TheVariants.{Abort as AbortMsg}
 use Rattle.ff_node.specs.Behaviour.{Behaviour}
@@ -9,10 +9,11 @@ use Rattle.ff_node.specs.Runs.{Message}
 use Rattle.ff_port.specs.declared.answers.End.{End}
 use Rattle.ff_port.specs.declared.answers.End.TheVariants.{Eos, Abort, Memory}
 use Rattle.ff_unit.specs.Stage.{StageState}
-use Rattle.ff_unit.specs.declared.stage.Mode.{Mode}
-use Rattle.ff_unit.specs.declared.stage.Mode.TheVariants.{Live, Shut, Cut}
-use Rattle.ff_unit.proofs.Answer.{answer}
-use Rattle.ff_unit.proofs.Messages.{IsOpen-front, before_last}
+use Rattle.ff_unit.specs.declared.mode.Mode.{Mode}
+use Rattle.ff_unit.specs.declared.mode.Mode.TheVariants.{Live, Shut, Cut}
+use Rattle.ff_unit.specs.Units.{HasAbort}
+use Rattle.ff_unit.specs.AnswerLaws.{answer}
+use Rattle.ff_unit.specs.MessageLaws.{IsOpen-front, before_last}
 
 -- the node is live: what is still to come is what it answers for the rest of the in
 pub record TiedLive {N : Type 0} (b : Behaviour N) (o n : N) (fin : Option End) (g t : List Message) : Type 0 where
@@ -67,10 +68,22 @@ TiedAt b o Cut n fin g t = TiedCut b o fin g t
 abbrev pub TiedTo : {N : Type 0} → Behaviour N → N → StageState N → List Message → List Message → Type 0
 TiedTo b o u g p = TiedAt b o u.mode u.node u.fin g (p ++ u.held)
 
+-- an end that is an Abort
+abbrev pub IsAbortEnd : Option End → Type 0
+IsAbortEnd None = ⊥
+IsAbortEnd (Some Eos) = ⊥
+IsAbortEnd (Some Abort) = Unit {0}
+IsAbortEnd (Some Memory) = ⊥
+
+-- a stage that ends by Abort was told to, or took one
+abbrev pub HasCause : {N : Type 0} → StageState N → List Message → Type 0
+HasCause u g = IsAbortEnd u.fin → (u.told ≡ true) ⊎ HasAbort g
+
 -- and it ends only with nothing held, and once that is decided
 pub record Tied {N : Type 0} (b : Behaviour N) (o : N) (u : StageState N) (g p : List Message) : Type 0 where
   pub done : u.done ≡ true → (u.held ≡ []) × IsSome u.fin
   pub tied : TiedTo b o u g p
+  pub cause : HasCause u g
 
 -- an open list that was put begins the answer
 pub record Begun {N : Type 0} (b : Behaviour N) (o : N) (g p : List Message) : Type 0 where

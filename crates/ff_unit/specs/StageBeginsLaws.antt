@@ -1,6 +1,6 @@
 -- What a run of a stage has put begins what its node sends for all of the in.
-use Rattle.std.specs.Prelude.{IsSome}
-use Rattle.std.proofs.Common.{◌≡◌, true, List, [], ◌∷◌, ◌++◌, length, Option, sym, ap, ◌∙◌, subst, append_assoc, append-nil}
+use Rattle.std.specs.Prelude.{◌⊎◌}
+use Rattle.std.proofs.Common.{◌≡◌, List, [], ◌∷◌, ◌++◌, length, Option, refl, sym, ap, ◌∙◌, subst, append_assoc, append-nil, inl, inr}
 use Rattle.ff_rec.specs.Streams.{IsOpen, at, unaborted, closed, GoesOn}
 use Rattle.ff_rec.specs.declared.msg.Msg.TheVariants.{Eos as EosMsg}
 use Rattle.ff_node.specs.Behaviour.{Behaviour, KeepsKind}
@@ -9,13 +9,14 @@ use Rattle.ff_node.specs.Fits.{FitsStage}
 use Rattle.ff_node.specs.Runs.{Message, HasRun, AllGoOn, HasOuts, BeginsToFit}
 use Rattle.ff_port.specs.declared.answers.End.{End}
 use Rattle.ff_unit.specs.Stage.{StageState, opening_stage}
+use Rattle.ff_unit.specs.StagePorts.{StageReady}
 use Rattle.ff_unit.specs.StageSteps.{StageStep}
-use Rattle.ff_unit.specs.declared.stage.Mode.{Mode}
-use Rattle.ff_unit.specs.declared.stage.Mode.TheVariants.{Live, Shut, Cut}
-use Rattle.ff_unit.proofs.Answer.{answer, IsOpen-answer, answer-closed, answer-unaborted, FitsStage-answer}
-use Rattle.ff_unit.proofs.Messages.{unaborted-append, unaborted-open, unaborted-closed, unaborted-cut}
-use Rattle.ff_unit.proofs.StageKept.{HasRun-tied}
-use Rattle.ff_unit.proofs.StageTied.{TiedAt, Tied, TiedAt-begun}
+use Rattle.ff_unit.specs.declared.mode.Mode.{Mode}
+use Rattle.ff_unit.specs.declared.mode.Mode.TheVariants.{Live, Shut, Cut}
+use Rattle.ff_unit.specs.AnswerLaws.{answer, IsOpen-answer, answer-closed, answer-unaborted, FitsStage-answer}
+use Rattle.ff_unit.specs.MessageLaws.{unaborted-append, unaborted-open, unaborted-closed, unaborted-cut}
+use Rattle.ff_unit.specs.StageKeptLaws.{IsTiedRun, HasRun-tied}
+use Rattle.ff_unit.specs.StageTiedLaws.{TiedAt, Tied, TiedAt-begun}
 
 module _ {N : Type 0} (b : Behaviour N) (o : N) where
   -- what was put and is held, without an Abort, goes on to the whole answer
@@ -49,24 +50,24 @@ module _ {N : Type 0} (b : Behaviour N) (o : N) where
 
 module _ {N : Type 0} (b : Behaviour N) (kind : KeepsKind b) where
   -- while something is held, neither Eos nor Abort was put
-  pub HasRun-open : (u : StageState N) (gots puts : List (List Message)) (m : Message) (held : List Message)
-      → HasRun (StageStep b) (opening_stage b u) 1 1 u gots puts → u.held ≡ m ∷ held → IsOpen (at puts 0)
-  HasRun-open u gots puts m held run e =
-      let r = HasRun-tied b kind u gots puts run in
-      let held_tied = subst (λ h. TiedAt b (b.opening u.node) u.mode u.node u.fin r.got (r.put ++ h)) e r.tied.tied in
-      subst (λ l. IsOpen (at l 0)) (sym r.puts_are) (TiedAt-begun b (b.opening u.node) u.mode u.node u.fin r.got r.put m held held_tied).outs
+  IsOpen-held : (u : StageState N) (g p held : List Message) → Tied b (b.opening u.node) u g p → u.held ≡ held → (u.held ≡ []) ⊎ IsOpen p
+  IsOpen-held u g p [] t e = inl e
+  IsOpen-held u g p (m ∷ held) t e =
+      inr (TiedAt-begun b (b.opening u.node) u.mode u.node u.fin g p m held
+      (subst (λ h. TiedAt b (b.opening u.node) u.mode u.node u.fin g (p ++ h)) e t.tied)).outs
 
-  -- a stage has one in and one out
-  pub HasRun-one_in : (u : StageState N) (gots puts : List (List Message)) → HasRun (StageStep b) (opening_stage b u) 1 1 u gots puts → length gots ≡ 1
-  HasRun-one_in u gots puts run = ap length (HasRun-tied b kind u gots puts run).gots_are
-
-  pub HasRun-one_out : (u : StageState N) (gots puts : List (List Message)) → HasRun (StageStep b) (opening_stage b u) 1 1 u gots puts → length puts ≡ 1
-  HasRun-one_out u gots puts run = ap length (HasRun-tied b kind u gots puts run).puts_are
-
-  -- a stage that has ended holds nothing, and how it ended is decided
-  pub HasRun-done : (u : StageState N) (gots puts : List (List Message)) → HasRun (StageStep b) (opening_stage b u) 1 1 u gots puts
-      → u.done ≡ true → (u.held ≡ []) × IsSome u.fin
-  HasRun-done u gots puts run done = (HasRun-tied b kind u gots puts run).tied.done done
+  -- its ports are as its code asks
+  pub StageReady-run : (u : StageState N) (gots puts : List (List Message)) → HasRun (StageStep b) (opening_stage b u) 1 1 u gots puts
+      → StageReady u gots puts
+  StageReady-run u gots puts run = of (HasRun-tied b kind u gots puts run)
+    where
+      of : IsTiedRun b u gots puts → StageReady u gots puts
+      of r = record {
+        one_in = ap length r.gots_are;
+        one_out = ap length r.puts_are;
+        open_out = subst (λ l. (u.held ≡ []) ⊎ IsOpen (at l 0)) (sym r.puts_are) (IsOpen-held u r.got r.put u.held r.tied refl);
+        ended = r.tied.done;
+      }
 
   -- however its in goes on, its out can go on so that it fits
   pub BeginsToFit-stage : (law : (o : N) → ClassLaw b o (b.class o)) (u : StageState N) (gots puts : List (List Message))

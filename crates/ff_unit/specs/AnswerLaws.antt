@@ -10,7 +10,7 @@ use Rattle.ff_node.specs.Behaviour.{Behaviour, sent_from, state_from}
 use Rattle.ff_node.specs.Classes.{ClassLaw, IsPlainNode, reached}
 use Rattle.ff_node.specs.Fits.{FitsStage, IsItemOrMark, replaced}
 use Rattle.ff_node.specs.Runs.{Message}
-use Rattle.ff_unit.proofs.Messages.{IsOpen-append, IsOpen-carried}
+use Rattle.ff_unit.specs.MessageLaws.{IsOpen-append, IsOpen-carried}
 
 -- from state `n` of its node: what is sent for each record until the node or the in ends, and then what is sent at the end
 abbrev pub answer : {N : Type 0} → Behaviour N → N → List Message → List Message

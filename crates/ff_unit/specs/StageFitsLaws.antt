@@ -10,11 +10,11 @@ use Rattle.ff_port.specs.declared.answers.End.{End}
 use Rattle.ff_port.specs.declared.answers.End.TheVariants.{Eos}
 use Rattle.ff_unit.specs.Stage.{StageState, opening_stage}
 use Rattle.ff_unit.specs.StageSteps.{StageStep}
-use Rattle.ff_unit.specs.declared.stage.Mode.{Mode}
-use Rattle.ff_unit.specs.declared.stage.Mode.TheVariants.{Live, Shut, Cut}
-use Rattle.ff_unit.proofs.Answer.{answer, answer-closed, FitsStage-answer}
-use Rattle.ff_unit.proofs.StageKept.{HasRun-tied}
-use Rattle.ff_unit.proofs.StageTied.{TiedAt, IsClosed, EndsIn, IsCutEnd}
+use Rattle.ff_unit.specs.declared.mode.Mode.{Mode}
+use Rattle.ff_unit.specs.declared.mode.Mode.TheVariants.{Live, Shut, Cut}
+use Rattle.ff_unit.specs.AnswerLaws.{answer, answer-closed, FitsStage-answer}
+use Rattle.ff_unit.specs.StageKeptLaws.{HasRun-tied}
+use Rattle.ff_unit.specs.StageTiedLaws.{TiedAt, IsClosed, EndsIn, IsCutEnd}
 
 -- an in that was ended, and the whole answer to it
 record IsWhole {N : Type 0} (b : Behaviour N) (o : N) (g t : List Message) : Type 0 where

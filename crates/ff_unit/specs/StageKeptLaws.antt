@@ -1,20 +1,23 @@
 -- Every run of a stage keeps it tied to its ports.
-use Rattle.std.proofs.Common.{◌≡◌, Bool, true, List, [], ◌∷◌, ◌++◌, length, Option, None, Some, refl, sym, ap, ◌∙◌, subst, append_assoc, append-nil, arith, inl, inr}
+use Rattle.std.proofs.Common.{◌≡◌, Bool, true, false, List, [], ◌∷◌, ◌++◌, length, Option, None, Some, refl, sym, ap, ◌∙◌, subst, append_assoc, append-nil, arith, inl, inr}
 use Rattle.std.specs.Prelude.{IsSome}
 use Rattle.std.proofs.lemmas.Bool.{false≢true}
-use Rattle.ff_rec.specs.declared.msg.Msg.TheVariants.{Abort as AbortMsg}
+use Rattle.ff_rec.specs.Lines.{Rec}
+use Rattle.ff_rec.specs.declared.msg.Msg.TheVariants.{Item, Mark, Pick, Eos as EosMsg, Abort as AbortMsg}
 use Rattle.ff_rec.specs.Streams.{added}
 use Rattle.ff_node.specs.Behaviour.{Behaviour, KeepsKind}
 use Rattle.ff_node.specs.Runs.{Message, Act, Took, Gave, Refused, Idle, Told, Handed, Leads, HasRun, took, gave, took_on, gave_on}
 use Rattle.ff_port.specs.declared.answers.End.{End}
-use Rattle.ff_port.specs.declared.answers.End.TheVariants.{Abort}
-use Rattle.ff_unit.specs.Stage.{StageState, opening_stage}
-use Rattle.ff_unit.specs.StageSteps.{StageStep, IsOpenFront, drops, short_fin}
-use Rattle.ff_unit.specs.declared.stage.Mode.TheVariants.{Live}
-use Rattle.ff_unit.proofs.Answer.{answer}
-use Rattle.ff_unit.proofs.StageKind.{started, StageTakes-kept}
-use Rattle.ff_unit.proofs.StageTied.{Tied, TiedTo, TiedAt, TiedLive, TiedCut, IsCutEnd, TiedAt-begun, Begun-cut}
-use Rattle.ff_unit.proofs.StageTakes.{StageTakes-tied}
+use Rattle.ff_port.specs.declared.answers.End.TheVariants.{Eos, Abort, Memory}
+use Rattle.ff_unit.specs.Stage.{StageState, started, opening_stage}
+use Rattle.ff_unit.specs.StageSteps.{StageStep, StageTakes, IsOpenFront, drops, short_fin, works}
+use Rattle.ff_unit.specs.Units.{HasAbort}
+use Rattle.ff_unit.specs.declared.mode.Mode.{Mode}
+use Rattle.ff_unit.specs.declared.mode.Mode.TheVariants.{Live, Shut, Cut}
+use Rattle.ff_unit.specs.AnswerLaws.{answer}
+use Rattle.ff_unit.specs.StageKindLaws.{StageTakes-kept}
+use Rattle.ff_unit.specs.StageTiedLaws.{Tied, TiedTo, TiedAt, TiedLive, TiedCut, IsCutEnd, IsAbortEnd, HasCause, TiedAt-begun, Begun-cut}
+use Rattle.ff_unit.specs.StageTakesLaws.{StageTakes-tied}
 
 -- what an act took at the one in, and gave to the one out
 abbrev pub takes_one : Act → List Message → List Message
@@ -64,35 +67,83 @@ module _ {N : Type 0} (b : Behaviour N) (kind : KeepsKind b) (o : N) where
       let l : TiedLive b o u.node u.fin g p = subst (λ l. TiedLive b o u.node u.fin g l) (ap (λ h. p ++ h) none ∙ append-nil p) (subst (λ mode. TiedAt b o mode u.node u.fin g (p ++ u.held)) live t) in
       Begun-cut b o (Some Abort) g p tt (record { outs = l.outs; more = answer b u.node; exact = l.exact })
 
+  -- an Abort is taken last
+  HasAbort-last : (g : List Message) → HasAbort (g ++ AbortMsg ∷ [])
+  HasAbort-last [] = tt
+  HasAbort-last (Item x ∷ g) = HasAbort-last g
+  HasAbort-last (Mark ∷ g) = HasAbort-last g
+  HasAbort-last (Pick w ∷ g) = HasAbort-last g
+  HasAbort-last (EosMsg ∷ g) = HasAbort-last g
+  HasAbort-last (AbortMsg ∷ g) = tt
+
+  fin-works : (u : StageState N) (x : Rec) → u.fin ≡ None → (ends : Bool) → b.ends u.node x ≡ ends → (works b u x).fin ≡ None
+  fin-works u x none true e = rw e refl
+  fin-works u x none false e = rw e none
+
+  -- a stage that goes on ends by Abort only where it takes one
+  StageTakes-cause : (mode : Mode) (u : StageState N) (m : Message) (v : StageState N) (g : List Message) → u.fin ≡ None → StageTakes b mode u m v
+      → IsAbortEnd v.fin → HasAbort (g ++ m ∷ [])
+  StageTakes-cause mode u m v g none takes end = by mode m takes
+    where
+      no : (fin : Option End) → v.fin ≡ fin → (IsAbortEnd fin → ⊥) → (m : Message) → HasAbort (g ++ m ∷ [])
+      no fin e other m = absurd (other (subst IsAbortEnd e end))
+
+      by : (mode : Mode) (m : Message) → StageTakes b mode u m v → HasAbort (g ++ m ∷ [])
+      by Live (Item x) (inl e) = no None (ap (λ w. w.fin) e ∙ fin-works u x none (b.ends u.node x) refl) (λ h. h) (Item x)
+      by Live (Item x) (inr gives) = no None gives.fin_is (λ h. h) (Item x)
+      by Live Mark e = no None (ap (λ w. w.fin) e ∙ none) (λ h. h) Mark
+      by Live (Pick w) e = no None (ap (λ z. z.fin) e ∙ none) (λ h. h) (Pick w)
+      by Live EosMsg (inl e) = no (Some Eos) (ap (λ w. w.fin) e) (λ h. h) EosMsg
+      by Live EosMsg (inr gives) = no (Some Memory) gives.fin_is (λ h. h) EosMsg
+      by Live AbortMsg e = HasAbort-last g
+      by Shut (Item x) e = no None (ap (λ w. w.fin) e ∙ none) (λ h. h) (Item x)
+      by Shut Mark e = no None (ap (λ w. w.fin) e ∙ none) (λ h. h) Mark
+      by Shut (Pick w) e = no None (ap (λ z. z.fin) e ∙ none) (λ h. h) (Pick w)
+      by Shut EosMsg e = no (Some Eos) (ap (λ w. w.fin) e) (λ h. h) EosMsg
+      by Shut AbortMsg e = HasAbort-last g
+      by Cut (Item x) e = no None (ap (λ w. w.fin) e ∙ none) (λ h. h) (Item x)
+      by Cut Mark e = no None (ap (λ w. w.fin) e ∙ none) (λ h. h) Mark
+      by Cut (Pick w) e = no None (ap (λ z. z.fin) e ∙ none) (λ h. h) (Pick w)
+      by Cut EosMsg e = no (Some Memory) (ap (λ w. w.fin) e) (λ h. h) EosMsg
+      by Cut AbortMsg e = no (Some Memory) (ap (λ w. w.fin) e) (λ h. h) AbortMsg
+
+  short_fin-cause : (fin : Option End) → IsAbortEnd (short_fin fin) → ⊥
+  short_fin-cause None h = h
+  short_fin-cause (Some fin) h = h
+
   -- one step
   pub Tied-step : (u : StageState N) (g p : List Message) (act : Act) (v : StageState N) → StageStep b u act v → Tied b o u g p
       → Tied b o v (takes_one act g) (gives_one act p)
   Tied-step u g p (Took k m) v s t = record {
     done = λ done. absurd (undone u t.done s.2 (sym (StageTakes-kept b kind u.mode u m v s.3).done ∙ done));
     tied = StageTakes-tied b o g p u.mode u m v refl s.1 s.2 s.3 t.tied;
+    cause = λ end. inr (StageTakes-cause u.mode u m v g s.2 s.3 end);
   }
   Tied-step u g p (Gave k m) v s t = record {
     done = λ done. absurd (omega (arith, ap length (sym (t.done (sym (ap (λ w. w.done) s.2) ∙ done)).0 ∙ s.1)));
     tied = subst (λ w. TiedTo b o w g (p ++ m ∷ [])) (sym s.2)
         (subst (λ l. TiedAt b o u.mode u.node u.fin g l) (ap (λ h. p ++ h) s.1 ∙ sym (append_assoc p (m ∷ []) v.held)) t.tied);
+    cause = subst (λ w. HasCause w g) (sym s.2) t.cause;
   }
   Tied-step u g p Refused v s t = record {
     done = λ done. absurd (subst IsOpenFront (t.done (sym (ap (λ w. w.done) s.1) ∙ done)).0 s.0);
     tied = subst (λ w. TiedTo b o w g p) (sym s.1) (drops-tied u u.held g p refl s.0 t.tied);
+    cause = subst (λ w. HasCause w g) (sym s.1) (λ end. absurd (short_fin-cause u.fin end));
   }
   Tied-step u g p Idle v (inl e) t = subst (λ w. Tied b o w g p) (sym e) t
-  Tied-step u g p Idle v (inr s) t = subst (λ w. Tied b o w g p) (sym s.2) (record { done = λ _. (s.0, s.1); tied = t.tied })
+  Tied-step u g p Idle v (inr s) t = subst (λ w. Tied b o w g p) (sym s.2) (record { done = λ _. (s.0, s.1); tied = t.tied; cause = t.cause })
   Tied-step u g p Told v s t = record {
     done = λ done. absurd (undone u t.done s.2 (sym (ap (λ w. w.done) s.3) ∙ done));
     tied = subst (λ w. TiedTo b o w g p) (sym s.3) (told-tied u g p s.0 s.1 t.tied);
+    cause = subst (λ w. HasCause w g) (sym s.3) (λ end. inl refl);
   }
-  Tied-step u g p (Handed x) v e t = let same = subst (λ w. Tied b o w g p) e t in record { done = same.done; tied = same.tied }
+  Tied-step u g p (Handed x) v s t = subst (λ w. Tied b o w g p) (sym s.1) (record { done = t.done; tied = t.tied; cause = t.cause })
 
   -- any number of steps from a stage that made none
   pub Tied-leads : (keeps : Bool) (acts : List Act) (u : StageState N) → Leads (StageStep b) (started o keeps) acts u → Tied b o u (ins_of acts) (outs_of acts)
   Tied-leads keeps [] u e =
       subst (λ w. Tied b o w [] []) (sym e)
-      (record { done = λ done. absurd (false≢true done); tied = record { undecided = refl; ins = tt; outs = tt; exact = λ rest. refl } })
+      (record { done = λ done. absurd (false≢true done); tied = record { undecided = refl; ins = tt; outs = tt; exact = λ rest. refl }; cause = λ end. absurd end })
   Tied-leads keeps (act ∷ acts) u l = Tied-step l.0 (ins_of acts) (outs_of acts) act u l.2 (Tied-leads keeps acts l.0 l.1)
 
 -- the ports are one in and one out

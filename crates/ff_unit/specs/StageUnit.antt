@@ -1,0 +1,38 @@
+-- A stage as a unit.
+use Rattle.std.specs.Prelude.{◌≡◌, true, [], Some}
+use Rattle.ff_rec.specs.Streams.{at, items}
+use Rattle.ff_node.specs.Behaviour.{Behaviour, node_rejected}
+use Rattle.ff_node.specs.Fits.{FitsStage}
+use Rattle.ff_port.specs.declared.answers.End.TheVariants.{Abort}
+use Rattle.ff_unit.specs.Stage.{StageState, opening_stage}
+use Rattle.ff_unit.specs.StagePorts.{StageReady, Stalls}
+use Rattle.ff_unit.specs.StageSteps.{StageStep}
+use Rattle.ff_unit.specs.Units.{Doing}
+use Rattle.ff_unit.specs.declared.mode.Mode.TheVariants.{Cut}
+
+-- a stage that was told to abort before its first step
+abbrev pub aborted_stage : {N : Type 0} → StageState N → StageState N
+aborted_stage u = record u { mode = Cut; fin = Some Abort; done = true; told = true }
+
+-- what a stage of this node does
+abbrev pub stage_does : {N : Type 0} → Behaviour N → Doing (StageState N)
+stage_does b = record {
+  Made = λ u. Unit {0};
+  opening = opening_stage b;
+  ins = λ u. 1;
+  outs = λ u. 1;
+  Rests = λ u. u.held ≡ [];
+  fin = λ u. u.fin;
+  done = λ u. u.done;
+  told = λ u. u.told;
+  aborted = aborted_stage;
+  rejects = λ u. u.rejects;
+  keeps = λ u. u.keeps;
+  kept = λ u. u.kept;
+  taken = λ u. u.taken;
+  Steps = StageStep b;
+  Ready = StageReady;
+  Stalls = λ u before after. Stalls u.held u.fin before after;
+  Fits = λ u. FitsStage b u.node;
+  rejected = λ u gots. node_rejected b u.node (items (at gots 0));
+}

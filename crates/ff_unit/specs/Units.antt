@@ -1,0 +1,179 @@
+-- What a unit is: what is seen of its state, how it steps between its ports, and what holds of all that it does.
+use Rattle.std.specs.Prelude.{◌≡◌, ◌⊎◌, ℕ, zero, suc, Bool, true, false, if◌then◌else◌, List, [], ◌∷◌, ◌++◌, length, Option, None, Some, IsSome}
+use Rattle.ff_rec.specs.Lines.{Rec}
+use Rattle.ff_rec.specs.declared.msg.Msg.TheVariants.{Item, Mark, Pick, Eos as EosMsg, Abort as AbortMsg}
+use Rattle.ff_node.specs.Runs.{Message, Act, Took, Gave, Refused, Idle, Told, Handed, Leads, HasRun, OneEvent, BeginsToFit, FitsWhole}
+use Rattle.ff_node.specs.Sends.{counted}
+use Rattle.ff_port.specs.declared.answers.End.{End}
+use Rattle.ff_port.specs.declared.answers.End.TheVariants.{Eos, Abort}
+use Rattle.ff_port.specs.declared.answers.Step.{Step}
+use Rattle.ff_port.specs.declared.answers.Step.TheVariants.{Moved, Waits, Ended}
+
+-- what a unit knows of its ports: how many messages are there at each in, how much room at each out, and how many messages
+-- wait to be handed over
+pub record Known : Type 0 where
+  pub knowns : List ℕ
+  pub rooms : List ℕ
+  pub waiting : ℕ
+
+abbrev pub known : List ℕ → List ℕ → ℕ → Known
+known knowns rooms waiting = record { knowns = knowns; rooms = rooms; waiting = waiting }
+
+-- what a unit does; `U` is what is seen of it
+pub record Doing (U : Type 0) : Type 1 where
+  -- what its constructor makes sure of
+  pub Made : U → Type 0
+  -- the unit as it was before its first step
+  pub opening : U → U
+  -- how many ins and outs it has
+  pub ins : U → ℕ
+  pub outs : U → ℕ
+  -- it holds nothing to be put
+  pub Rests : U → Type 0
+  -- how it will end, once that is decided, and whether it has ended
+  pub fin : U → Option End
+  pub done : U → Bool
+  -- whether it was told to abort, and what this makes of a unit before its first step
+  pub told : U → Bool
+  pub aborted : U → U
+  -- how many records it rejected, whether these are kept, those kept of them, and those kept and taken out
+  pub rejects : U → ℕ
+  pub keeps : U → Bool
+  pub kept : U → List Rec
+  pub taken : U → List Rec
+  -- one act
+  pub Steps : U → Act → U → Type 0
+  -- what its code asks of its ports, which every run keeps
+  pub Ready : U → List (List Message) → List (List Message) → Type 0
+  -- the port that was due gave nothing, by the ports before and after
+  pub Stalls : U → Known → Known → Type 0
+  -- the whole lists that it fits, and what it rejects for whole ins
+  pub Fits : U → List (List Message) → List (List Message) → Type 0
+  pub rejected : U → List (List Message) → List Rec
+
+-- a run of a unit that was `o` before its first step
+abbrev pub RanFrom : {U : Type 0} → Doing U → U → U → List (List Message) → List (List Message) → Type 0
+RanFrom d o u gots puts = d.Made o × HasRun d.Steps o (d.ins o) (d.outs o) u gots puts
+
+-- a unit is reached by its own acts, which its ports saw
+abbrev pub Ran : {U : Type 0} → Doing U → U → List (List Message) → List (List Message) → Type 0
+Ran d u gots puts = RanFrom d (d.opening u) u gots puts
+
+-- the answer of a unit that neither took nor gave
+abbrev pub idle_answer : Bool → Option End → Step
+idle_answer true (Some fin) = Ended fin
+idle_answer true None = Waits
+idle_answer false fin = Waits
+
+-- what a step answers; no step tells a unit to abort or takes a reject out
+abbrev pub Answers : {U : Type 0} → Doing U → U → Act → Step → Type 0
+Answers d v (Took k m) answer = answer ≡ Moved
+Answers d v (Gave k m) answer = answer ≡ Moved
+Answers d v Refused answer = answer ≡ Moved
+Answers d v Idle answer = answer ≡ idle_answer (d.done v) (d.fin v)
+Answers d v Told answer = ⊥
+Answers d v (Handed x) answer = ⊥
+
+-- one step is exactly one act
+abbrev pub One : {U : Type 0} → Doing U → U → List (List Message) → List (List Message) → Step → U → List (List Message) → List (List Message) → Type 0
+One d u gots puts answer v gots' puts' = OneEvent d.Steps (Answers d) u gots puts answer v gots' puts'
+
+-- where a unit waits, its due port was tried and gave nothing
+abbrev pub WaitsOnly : {U : Type 0} → Doing U → U → Step → Known → Known → Type 0
+WaitsOnly d u Moved before after = Unit {0}
+WaitsOnly d u Waits before after = d.Stalls u before after
+WaitsOnly d u (Ended fin) before after = Unit {0}
+
+-- a unit has ended, as it was decided, with nothing held; in the step in which it ended nothing waited to be handed over
+abbrev pub EndedOnly : {U : Type 0} → Doing U → U → Step → U → ℕ → Type 0
+EndedOnly d u Moved v waiting = Unit {0}
+EndedOnly d u Waits v waiting = Unit {0}
+EndedOnly d u (Ended fin) v waiting =
+    (d.done v ≡ true) × (d.fin v ≡ Some fin) × d.Rests v × ((d.done u ≡ true → ⊥) → waiting ≡ 0)
+
+-- a unit that has ended does nothing more
+pub record StaysAt {U : Type 0} (u : U) (gots puts : List (List Message)) (v : U) (gots' puts' : List (List Message)) : Type 0 where
+  pub unit : v ≡ u
+  pub gots_same : gots' ≡ gots
+  pub puts_same : puts' ≡ puts
+
+-- how a unit ended, once it has
+abbrev pub end_of : {U : Type 0} → Doing U → U → Option End
+end_of d u = if d.done u then d.fin u else None
+
+-- a kept reject is taken out, or none is held
+abbrev pub HandsReject : {U : Type 0} → Doing U → U → Option Rec → U → Type 0
+HandsReject d u None v = (d.kept u ≡ []) × (v ≡ u)
+HandsReject d u (Some x) v = d.Steps u (Handed x) v × (d.kept u ≡ x ∷ d.kept v)
+
+-- the rejects of a unit, by what it took: their number, and those taken out with those held, where they are kept
+pub record HasRejects {U : Type 0} (d : Doing U) (u : U) (gots : List (List Message)) : Type 0 where
+  pub number_is : d.rejects u ≡ counted (length (d.rejected u gots))
+  pub kept_are : d.keeps u ≡ true → d.taken u ++ d.kept u ≡ d.rejected u gots
+  pub none : d.keeps u ≡ false → d.kept u ≡ []
+
+-- an Abort stands among these messages
+abbrev pub HasAbort : List Message → Type 0
+HasAbort [] = ⊥
+HasAbort (Item x ∷ ms) = HasAbort ms
+HasAbort (Mark ∷ ms) = HasAbort ms
+HasAbort (Pick w ∷ ms) = HasAbort ms
+HasAbort (EosMsg ∷ ms) = HasAbort ms
+HasAbort (AbortMsg ∷ ms) = Unit {0}
+
+-- an Abort was taken at some in
+abbrev pub TookAbort : List (List Message) → Type 0
+TookAbort [] = ⊥
+TookAbort (ms ∷ mss) = HasAbort ms ⊎ TookAbort mss
+
+-- those taken out, and whether it was told to abort, after an act
+abbrev pub taken_by : Act → List Rec → List Rec
+taken_by (Took k m) taken = taken
+taken_by (Gave k m) taken = taken
+taken_by Refused taken = taken
+taken_by Idle taken = taken
+taken_by Told taken = taken
+taken_by (Handed x) taken = taken ++ x ∷ []
+
+abbrev pub told_by : Act → Bool → Bool
+told_by (Took k m) told = told
+told_by (Gave k m) told = told
+told_by Refused told = told
+told_by Idle told = told
+told_by Told told = true
+told_by (Handed x) told = told
+
+-- an Abort was put on each of the first `n` outs, the last of them first
+abbrev pub aborts : ℕ → List Act
+aborts zero = []
+aborts (suc n) = Gave n AbortMsg ∷ aborts n
+
+-- what a unit told to abort before its first step did, the newest act first
+abbrev pub told_acts : ℕ → List Act
+told_acts n = Idle ∷ aborts n ++ Told ∷ []
+
+-- the laws of a unit
+pub record IsUnit {U : Type 0} (d : Doing U) : Type 0 where
+  -- no act changes what it was before its first step
+  pub opening_kept : (u : U) (act : Act) (v : U) → d.Steps u act v → d.opening v ≡ d.opening u
+  -- what was taken out grows by what is taken out alone, and only being told tells it
+  pub taken_kept : (u : U) (act : Act) (v : U) → d.Steps u act v → d.taken v ≡ taken_by act (d.taken u)
+  pub told_kept : (u : U) (act : Act) (v : U) → d.Steps u act v → d.told v ≡ told_by act (d.told u)
+  -- what is seen of one that made no step
+  pub opened : (u : U) → (d.done (d.opening u) ≡ false) × (d.told (d.opening u) ≡ false) × (d.taken (d.opening u) ≡ [])
+  -- its ports are as its code asks
+  pub ready : (u : U) (gots puts : List (List Message)) → Ran d u gots puts → d.Ready u gots puts
+  -- one that has ended has decided how
+  pub ends : (u : U) (gots puts : List (List Message)) → Ran d u gots puts → d.done u ≡ true → IsSome (d.fin u)
+  -- what its ports saw is the beginning of lists that it fits, and where it ended by Eos they are whole
+  pub begins : (u : U) (gots puts : List (List Message)) → Ran d u gots puts → BeginsToFit (d.Fits u) gots puts
+  pub whole : (u : U) (gots puts : List (List Message)) → Ran d u gots puts → d.done u ≡ true → d.fin u ≡ Some Eos
+      → FitsWhole (d.Fits u) gots puts
+  -- then its rejects are all that it rejects for what it took
+  pub rejects_are : (u : U) (gots puts : List (List Message)) → Ran d u gots puts → d.done u ≡ true → d.fin u ≡ Some Eos
+      → HasRejects d u gots
+  -- it ends by Abort only where it took one or was told to
+  pub causes : (u : U) (gots puts : List (List Message)) → Ran d u gots puts → d.fin u ≡ Some Abort
+      → (d.told u ≡ true) ⊎ TookAbort gots
+  -- one that is told to abort before its first step puts Abort on each out and ends
+  pub aborts_by : (u : U) → u ≡ d.opening u → Leads d.Steps u (told_acts (d.outs u)) (d.aborted u)
