@@ -47,9 +47,9 @@ pub enum Command {
         /// Slots of a ring.
         cap: u32,
         queue: Queue,
-        /// The most tasks of a loop.
+        /// The most tasks of a wrap.
         tasks: u64,
-        /// Without threads.
+        /// On the calling thread alone.
         one: bool,
         /// The file for the rejected records.
         rejects: Option<Text>,

@@ -13,7 +13,7 @@ pub fn read_number_in(text: &str, least: u64, most: u64) -> Option<u64>
     (least <= n && n <= most).then_some(n)
 }
 
-// The same without limits but those of `i64`.
+// The number that a text is so, within the limits of `i64` alone.
 fn read_plain(text: &[u8]) -> Option<u64>
     ensures { result ≡ number_in 0 (2 ^ 63 - 1) text.now }
 {

@@ -15,7 +15,7 @@ pub fn text_of<'a>(matches: &ArgMatches<'a>, name: &str) -> Option<&'a str>
     matches.get_str(name)
 }
 
-/// The same, kept.
+/// What stands for an argument, kept beyond the words.
 pub fn kept_of(
     alloc: Global,
     matches: &ArgMatches<'_>,
@@ -54,6 +54,7 @@ pub fn queue_of(matches: &ArgMatches<'_>) -> Option<Queue>
     queue_named(text_of(matches, "queue")?)
 }
 
+// The kind of the channels of this name.
 fn queue_named(name: &str) -> Option<Queue>
     ensures { result ≡ queue_named name.now }
 {

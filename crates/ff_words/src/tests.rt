@@ -1,11 +1,12 @@
 // What is expected is worked out by hand, from what clap's documents say of such arguments and from the limits of each
 // command.
 use crate::{CommandFault, read_command};
+use refused::REFUSED;
 use std::alloc::Global;
 use std::process::Abort;
 use std::test::Fail;
+use taken::TAKEN;
 
-mod limits;
 mod refused;
 mod taken;
 
@@ -38,5 +39,25 @@ fn is_refused(rt: &impl Abort, alloc: Global, line: &str) -> Result<(), Fail> {
         Ok(command) => panic!(rt; "{command:?}: {line}"),
         Err(fault) => assert_eq!(rt; fault, CommandFault::Usage, "{line}"),
     }
+    Ok(())
+}
+
+#[test]
+fn words_by_tables(rt: HostRuntime) -> Result<(), Fail> {
+    let mut tried = 0u64;
+    for line in TAKEN.lines() {
+        if let Some((line, want)) = line.split_once(" | ") {
+            is_taken(&rt, rt.alloc(), line, want)?;
+            tried = tried.saturating_add(1);
+        }
+    }
+    for line in REFUSED.lines() {
+        if let Some((line, _)) = line.split_once(" |") {
+            is_refused(&rt, rt.alloc(), line)?;
+            tried = tried.saturating_add(1);
+        }
+    }
+    assert_eq!(&rt; tried, 132);
+    assert!(&rt; read_command(rt.alloc(), &[]).is_err(), "no words");
     Ok(())
 }

@@ -32,6 +32,7 @@ pub fn read_command(alloc: Global, words: &[String]) -> Result<Command, CommandF
     }
 }
 
+// The command `run`.
 fn read_run(alloc: Global, words: &[String]) -> Result<Command, CommandFault>
     ensures ok { IfOk result (λ c. read_by run_app run_of (texts words.now) ≡ Some c) }
     ensures usage { IsErrOf result CommandFault.Usage → read_by run_app run_of (texts words.now) ≡ None }
@@ -40,6 +41,7 @@ fn read_run(alloc: Global, words: &[String]) -> Result<Command, CommandFault>
     run_of(alloc, &matches)
 }
 
+// The command `check`.
 fn read_check(alloc: Global, words: &[String]) -> Result<Command, CommandFault>
     ensures ok { IfOk result (λ c. read_by check_app check_of (texts words.now) ≡ Some c) }
     ensures usage { IsErrOf result CommandFault.Usage → read_by check_app check_of (texts words.now) ≡ None }
@@ -48,6 +50,7 @@ fn read_check(alloc: Global, words: &[String]) -> Result<Command, CommandFault>
     check_of(alloc, &matches)
 }
 
+// The command `plan`.
 fn read_plan(alloc: Global, words: &[String]) -> Result<Command, CommandFault>
     ensures ok { IfOk result (λ c. read_by plan_app plan_of (texts words.now) ≡ Some c) }
     ensures usage { IsErrOf result CommandFault.Usage → read_by plan_app plan_of (texts words.now) ≡ None }
@@ -56,6 +59,7 @@ fn read_plan(alloc: Global, words: &[String]) -> Result<Command, CommandFault>
     plan_of(alloc, &matches)
 }
 
+// The command `mdf`.
 fn read_mdf(alloc: Global, words: &[String]) -> Result<Command, CommandFault>
     ensures ok { IfOk result (λ c. read_by mdf_app mdf_of (texts words.now) ≡ Some c) }
     ensures usage { IsErrOf result CommandFault.Usage → read_by mdf_app mdf_of (texts words.now) ≡ None }
@@ -64,6 +68,7 @@ fn read_mdf(alloc: Global, words: &[String]) -> Result<Command, CommandFault>
     mdf_of(alloc, &matches)
 }
 
+// The command `dc`.
 fn read_dc(alloc: Global, words: &[String]) -> Result<Command, CommandFault>
     ensures ok { IfOk result (λ c. read_by dc_app dc_of (texts words.now) ≡ Some c) }
     ensures usage { IsErrOf result CommandFault.Usage → read_by dc_app dc_of (texts words.now) ≡ None }
@@ -72,6 +77,7 @@ fn read_dc(alloc: Global, words: &[String]) -> Result<Command, CommandFault>
     dc_of(&matches).ok_or(CommandFault::Usage)
 }
 
+// The command `soak`.
 fn read_soak(alloc: Global, words: &[String]) -> Result<Command, CommandFault>
     ensures ok { IfOk result (λ c. read_by soak_app soak_of (texts words.now) ≡ Some c) }
     ensures usage { IsErrOf result CommandFault.Usage → read_by soak_app soak_of (texts words.now) ≡ None }
