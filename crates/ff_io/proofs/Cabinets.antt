@@ -8,7 +8,7 @@ use Rattle.std.specs.List.{position_or_len}
 use Rattle.std.specs.Str.{bytes_eq}
 use Rattle.ff_io.specs.Cabinet.{Entry, entries_of, held, with_file}
 
--- the same choice, made twice
+-- one choice, made twice
 cond-twice : {X : Type 0} (b : Bool) (x y z : X) → cond b x z ≡ cond b x (cond b y z)
 cond-twice true x y z = refl
 cond-twice false x y z = refl
@@ -109,7 +109,7 @@ pub none-from_position : {X : Type 0} (p : X → Bool) (xs : List X) → positio
 none-from_position p xs e j d less = let past : length xs ≤ position_or_len p xs = grind (arith, common_steps) in
     fails_before_first p xs j d (omega arith)
 
--- the same four, from the answer of a search for the place
+-- these four, from the answer of a search for the place
 pub held-at : {Y Z : Type 0} (name : List ℕ) (list : List (String Y × Vec ℕ Z)) (k : ℕ) (file : String Y × Vec ℕ Z) → position (is_named name) list ≡ Some k
     → file ≡ get_or list k file → held (entries_of list) name ≡ Some file.1.items
 held-at name list k file e is = let found = position-Some (is_named name) list k file e in

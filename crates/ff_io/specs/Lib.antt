@@ -3,5 +3,6 @@ pub mod Bytes
 pub mod Memory
 pub mod Short
 pub mod Files
-pub mod FileLaws
 pub mod Cabinet
+-- lemmas: nothing to trust
+pub mod FileLaws

@@ -1,36 +1,38 @@
 // The files of the machine.
-ghost use Rattle.std.specs.Prelude.{◌≡◌, ◌<◌, ◌≤◌, None, length, IfOk, IfSome, OnOk};
-ghost use Rattle.std.specs.Io.KnownBytes.{Appends};
+ghost use Rattle.std.specs.Prelude.{◌≡◌, ◌<◌, ◌≤◌, None, length, IfOk, IfSome};
 
+mod storing;
 #[cfg(test)]
 mod tests;
+mod ways;
 
 use crate::{FileFault, Files, StoreFault};
 use std::alloc::Global;
-use std::fs::{File, OpenFile};
-use std::io::{ErrorKind, Read, Write};
+use std::fs;
+use std::fs::File;
+use std::io::{Read, Stderr, Write};
 use std::rt::Files as FileSystem;
-use std::{fs, io};
-
-// What the name of a new file beside another ends in. A run that was killed may have left the first of them.
-const SUFFIXES: [&str; 4] = [".new", ".new2", ".new3", ".new4"];
+use storing::{append, append_to_pipe, replace};
+use ways::{Way, way_of};
 
 /// The files that the system holds. They tell nothing of what they hold.
 #[derive(Drop)]
 pub struct HostFiles<R> {
     rt: R,
+    err: Stderr,
     alloc: Global,
     faults: u64,
 }
 
 impl<R: FileSystem> HostFiles<R> {
-    /// Files of which none was used yet. A name is a path.
-    pub fn new(alloc: Global, rt: R) -> HostFiles<R>
+    /// Files of which none was used yet. A name is a path; one that stands for standard error is written to `err`.
+    pub fn new(alloc: Global, rt: R, err: Stderr) -> HostFiles<R>
         ensures told { ⟦<HostFiles<R> as Files>⟧.told result ≡ None }
         ensures faults { ⟦<HostFiles<R> as Files>⟧.faults result ≡ 0 }
     {
         HostFiles {
             rt,
+            err,
             alloc,
             faults: 0,
         }
@@ -54,10 +56,13 @@ impl<R: FileSystem> Files for HostFiles<R> {
     }
 
     fn store(&mut self, name: &str, bytes: &[u8]) -> Result<(), StoreFault> {
-        let answer = if is_plain(&self.rt, name) {
-            replace(self.alloc, &self.rt, name, bytes)
-        } else {
-            fs::write(&self.rt, name, bytes).map_err(StoreFault::from)
+        let answer = match way_of(&self.rt, name) {
+            Way::Replace => replace(self.alloc, &self.rt, name, bytes),
+            Way::Through => fs::write(&self.rt, name, bytes).map_err(StoreFault::from),
+            Way::Append => append(&self.rt, name, bytes),
+            Way::Pipe => append_to_pipe(&self.rt, name, bytes),
+            Way::StandardError => self.err.write_all(bytes).map_err(StoreFault::from),
+            Way::Never => Err(StoreFault::Failed),
         };
         if matches!(answer, Err(StoreFault::Failed)) {
             self.faults = self.faults.saturating_add(1);
@@ -69,8 +74,10 @@ impl<R: FileSystem> Files for HostFiles<R> {
 // All that the reader has, if it is within the limit. No more than one byte beyond it is read.
 fn read_within<R: Read + Drop>(alloc: Global, reader: R, limit: usize) -> Result<Vec<u8>, FileFault>
     ensures within { IfOk result (λ content. length content.items ≤ limit) }
-    ensures content { IfOk result (λ content. IfSome (R.remaining reader) (λ bytes. content.items ≡ bytes)) }
-    ensures too_long { result ≡ Err FileFault.TooLong → IfSome (R.remaining reader) (λ bytes. limit < length bytes) }
+    ensures content { IfOk result (λ content. IfSome (R.remaining reader)
+        (λ bytes. content.items ≡ bytes)) }
+    ensures too_long { result ≡ Err FileFault.TooLong
+        → IfSome (R.remaining reader) (λ bytes. limit < length bytes) }
 {
     let mut content = Vec::new(alloc);
     reader
@@ -80,54 +87,4 @@ fn read_within<R: Read + Drop>(alloc: Global, reader: R, limit: usize) -> Result
         return Err(FileFault::TooLong);
     }
     Ok(content)
-}
-
-// Whether the name is free or that of a plain file. Another file must not be put in the place of a link or a device.
-fn is_plain<R: FileSystem>(rt: &R, name: &str) -> bool {
-    match fs::symlink_metadata(rt, name) {
-        Ok(metadata) => metadata.is_file(),
-        Err(_) => true,
-    }
-}
-
-// Puts a new file in the place of the old one, once all of it is on the disk. Until then the name holds what it held.
-fn replace<R: FileSystem>(
-    alloc: Global,
-    rt: &R,
-    name: &str,
-    bytes: &[u8],
-) -> Result<(), StoreFault> {
-    let (beside, mut file) = create_beside(alloc, rt, name)?;
-    let answer = fill(&mut file, bytes).and_then(|()| fs::rename(rt, beside.as_str(), name));
-    if answer.is_err() {
-        // What was begun isn't left behind. That this may fail too changes nothing.
-        let _ = fs::remove_file(rt, beside.as_str());
-    }
-    Ok(answer?)
-}
-
-// A new file beside the one with this name, with its own name.
-fn create_beside<R: FileSystem>(
-    alloc: Global,
-    rt: &R,
-    name: &str,
-) -> Result<(String, R::File), StoreFault> {
-    for suffix in SUFFIXES {
-        let mut beside = String::from_str(alloc, name)?;
-        beside.push_str(suffix)?;
-        match File::create_new(rt, beside.as_str()) {
-            Ok(file) => return Ok((beside, file)),
-            Err(error) if error.kind() == ErrorKind::AlreadyExists => {}
-            Err(error) => return Err(error.into()),
-        }
-    }
-    Err(StoreFault::Failed)
-}
-
-// Writes all bytes and waits until they are on the disk.
-fn fill<W: Write + OpenFile>(file: &mut W, bytes: &[u8]) -> io::Result<()>
-    ensures { OnOk result (Appends (W.contents file.old) (W.contents file.new) bytes.now) }
-{
-    file.write_all(bytes)?;
-    file.sync_all()
 }

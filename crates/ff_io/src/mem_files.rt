@@ -33,7 +33,7 @@ impl Model for MemFiles {
 
 impl MemFiles {
     /// The files of this list, by their names; of two with one name the first counts. Each load and each store is a call,
-    /// and the calls with these numbers, count_after from 1, fail.
+    /// and the calls with these numbers, counted from 1, fail.
     pub fn new(list: Vec<(String, Vec<u8>)>, fail: Vec<u64>) -> MemFiles
         ensures { result ≡ opened_cabinet (entries_of list.items) fail.items }
     {

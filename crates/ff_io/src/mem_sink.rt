@@ -31,7 +31,7 @@ impl Model for MemSink {
 }
 
 impl MemSink {
-    /// A sink that takes `budget` bytes in all and then fails each call, and fails the calls with these numbers, count_after
+    /// A sink that takes `budget` bytes in all and then fails each call, and fails the calls with these numbers, counted
     /// from 1. It reserves the budget at once, so that no later call takes memory.
     pub fn new(alloc: Global, budget: usize, fail: Vec<u64>) -> Result<MemSink, NoMemory>
         ensures { IfOk result (λ sink. sink ≡ opened_tray budget fail.items) }

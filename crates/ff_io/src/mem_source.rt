@@ -32,7 +32,7 @@ impl Model for MemSource {
 }
 
 impl MemSource {
-    /// A source that gives at most `most` bytes a call, and fails the calls with these numbers, count_after from 1.
+    /// A source that gives at most `most` bytes a call, and fails the calls with these numbers, counted from 1.
     pub fn new(bytes: Vec<u8>, most: usize, fail: Vec<u64>) -> MemSource
         requires { 1 ≤ most }
         ensures { result ≡ opened_feed bytes.items most fail.items }

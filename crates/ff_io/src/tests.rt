@@ -1,5 +1,6 @@
 use crate::{
-    Failed, MemSink, MemSource, ReaderSource, ShortSink, Sink, Source, WriterSink, write_all,
+    Failed, MemSink, MemSource, ReaderSource, ShortSink, Sink, Source, StderrSink, StdinSource,
+    StdoutSink, WriterSink, write_all,
 };
 use std::io;
 use std::io::{ErrorKind, Read, Write};
@@ -118,6 +119,17 @@ fn interrupted_call_is_tried_again(rt: HostRuntime) {
     let mut sink = WriterSink::new(Stutters { calls: 0 });
     assert_eq!(rt; sink.write(b"ab"), Ok(1));
     assert_eq!(rt; sink.write(b"b"), FAILED);
+}
+
+#[test]
+fn standard_streams_are_devices(rt: HostRuntime) {
+    let mut out = StdoutSink::new(rt.stdout());
+    assert_eq!(rt; write_all(&mut out, b"\n"), Ok(()));
+    let mut err = StderrSink::new(rt.stderr());
+    assert_eq!(rt; write_all(&mut err, b"\n"), Ok(()));
+    // A test has nothing on its standard input.
+    let mut input = StdinSource::new(rt.stdin());
+    assert_eq!(rt; input.read(&mut [0; 1]), Ok(0));
 }
 
 #[test]

@@ -1,3 +1,4 @@
+use super::storing::SUFFIXES;
 use super::*;
 use std::io::repeat;
 use std::os::unix::fs::symlink;
@@ -7,7 +8,7 @@ const NAME: &str = "ff_io_host_files_test";
 
 #[test]
 fn file_is_stored_and_loaded(rt: HostRuntime) -> Result<(), Fail> {
-    let mut files = HostFiles::new(rt.alloc(), rt);
+    let mut files = HostFiles::new(rt.alloc(), rt, rt.stderr());
     assert_eq!(rt; files.store(NAME, b"first"), Ok(()));
     assert_eq!(rt; files.load(NAME, 5)?.as_slice(), b"first".as_slice());
     assert_eq!(rt; files.store(NAME, b"second"), Ok(()));
@@ -31,7 +32,7 @@ fn file_is_stored_and_loaded(rt: HostRuntime) -> Result<(), Fail> {
 
 #[test]
 fn file_that_stands_beside_is_left_alone(rt: HostRuntime) -> Result<(), Fail> {
-    let mut files = HostFiles::new(rt.alloc(), rt);
+    let mut files = HostFiles::new(rt.alloc(), rt, rt.stderr());
     fs::write(&rt, "ff_io_beside_test.new", "another")?;
     assert_eq!(rt; files.store("ff_io_beside_test", b"own"), Ok(()));
     for (name, bytes) in [
@@ -46,7 +47,7 @@ fn file_that_stands_beside_is_left_alone(rt: HostRuntime) -> Result<(), Fail> {
 
 #[test]
 fn link_stays_a_link(rt: HostRuntime) -> Result<(), Fail> {
-    let mut files = HostFiles::new(rt.alloc(), rt);
+    let mut files = HostFiles::new(rt.alloc(), rt, rt.stderr());
     fs::write(&rt, "ff_io_target_test", "old")?;
     symlink(&rt, "ff_io_target_test", "ff_io_link_test")?;
     assert_eq!(rt; files.store("ff_io_link_test", b"new"), Ok(()));
@@ -60,12 +61,29 @@ fn link_stays_a_link(rt: HostRuntime) -> Result<(), Fail> {
 }
 
 #[test]
-fn store_in_a_missing_folder_fails(rt: HostRuntime) {
-    let mut files = HostFiles::new(rt.alloc(), rt);
-    assert_eq!(rt;
-        files.store("ff_io_no_folder/a", b"1"),
-        Err(StoreFault::Failed)
-    );
+fn devices_are_written_and_never_replaced(rt: HostRuntime) {
+    let mut files = HostFiles::new(rt.alloc(), rt, rt.stderr());
+    for (name, way, answer) in [
+        ("/dev/null", Way::Append, Ok(())),
+        ("/dev/full", Way::Append, Err(StoreFault::Failed)),
+        ("/dev/stderr", Way::StandardError, Ok(())),
+        ("/proc/ff_io_none", Way::Append, Err(StoreFault::Failed)),
+        ("ff_io_no_folder/a", Way::Replace, Err(StoreFault::Failed)),
+    ] {
+        assert_eq!(rt; way_of(&rt, name), way, "{name}");
+        assert_eq!(rt; files.store(name, b"1\n"), answer, "{name}");
+    }
+}
+
+#[test]
+fn what_is_appended_stands_behind(rt: HostRuntime) -> Result<(), Fail> {
+    let name = "ff_io_append_test";
+    assert_eq!(rt; append(&rt, name, b"a\n"), Ok(()));
+    assert_eq!(rt; append(&rt, name, b"b\n"), Ok(()));
+    let mut files = HostFiles::new(rt.alloc(), rt, rt.stderr());
+    assert_eq!(rt; files.load(name, 9)?.as_slice(), b"a\nb\n".as_slice());
+    fs::remove_file(&rt, name)?;
+    Ok(())
 }
 
 #[test]
