@@ -1,5 +1,5 @@
--- What is answered where no count of faults rose.
-use Rattle.std.proofs.Common.{◌≡◌, ℕ, List, [], ◌∷◌, ◌++◌, Option, None, Some, IfSome, IsSome, IsSomeAnd, refl, sym, ap, subst, ◌∙◌, inl, inr, append-nil, arith}
+-- What is answered where no count of faults rose, and which status comes with which answer.
+use Rattle.std.proofs.Common.{◌≡◌, ℕ, ◌≤◌, List, [], ◌∷◌, ◌++◌, Option, None, Some, IfSome, IsSome, IsSomeAnd, refl, sym, ap, subst, ◌∙◌, inl, inr, append-nil, arith}
 use Rattle.std.specs.Prelude.{◌⊎◌, Bool, true, is_some, option_and_then, Contains, Result, Ok, Err}
 use Rattle.std.specs.Io.KnownBytes.{Consumes, IsAtEnd}
 use Rattle.ff_net.specs.Meaning.{Fine}
@@ -8,22 +8,31 @@ use Rattle.ff_net.specs.Versions.{limit_by, seen_by}
 use Rattle.ff_ops.specs.Operation.{OpState, op_node}
 use Rattle.ff_rec.specs.Limits.{ReadingLaw}
 use Rattle.ff_rec.specs.declared.fault.LineFault.{LineFault}
-use Rattle.ff_single.specs.Endings.{IsOverrun}
+use Rattle.ff_stream.specs.Endings.{IsOverrun, Stopped, stop_count}
+use Rattle.ff_stream.specs.declared.ending.Stop.{Stop}
+use Rattle.ff_stream.specs.declared.ending.Stop.TheVariants as stop
 use Rattle.ff_text.specs.SpellingLaw.{SpellingIsOfOneNet}
 use Rattle.ff_top.proofs.Accepted.{None-description, Did-accepted, Did-refused, IsStop, IsStop-accepted, Rose-more}
 use Rattle.ff_top.proofs.Limited.{limit_by-left}
-use Rattle.ff_top.specs.Endings.{Did, Comes, Counts, IsAccepted, IsRefused, IsInLimits, IsBeyond, IsComplete}
-use Rattle.ff_top.specs.Jobs.{DoneWith, run_job}
-use Rattle.ff_top.specs.Messages.{fault_status, status_of}
-use Rattle.ff_top.specs.Outside.{Scene, IsQuiet, streams_of}
-use Rattle.ff_top.specs.Texts.{description, given_to, version}
+use Rattle.ff_top.specs.Commands.{DoneWith, given_to, IsInLimits, IsBeyond}
+use Rattle.ff_top.specs.Endings.{Did, Comes, Counts, IsAccepted, IsRefused, IsComplete, description}
+use Rattle.ff_top.specs.Messages.{fault_status, given_status, run_status, check_status, status_of}
+use Rattle.ff_top.specs.Outside.{Outside, IsQuiet, streams_of}
+use Rattle.ff_top.specs.Running.{run_job}
+use Rattle.ff_top.specs.Texts.{version}
+use Rattle.ff_top.specs.declared.check.CheckFault.{CheckFault}
+use Rattle.ff_top.specs.declared.check.CheckFault.TheVariants as check
 use Rattle.ff_top.specs.declared.fault.Fault.{Fault}
-use Rattle.ff_top.specs.declared.fault.Fault.TheVariants.{Usage, File, BadText, BrokenRule, NotBuilt, Tasks, Write, Rejects, Read, Line, NoMemory}
+use Rattle.ff_top.specs.declared.fault.Fault.TheVariants.{Words, NotBuilt, Given, Run, Check}
+use Rattle.ff_top.specs.declared.given_fault.GivenFault.{GivenFault}
+use Rattle.ff_top.specs.declared.given_fault.GivenFault.TheVariants as given
+use Rattle.ff_top.specs.declared.run_cause.RunCause.{RunCause}
+use Rattle.ff_top.specs.declared.run_cause.RunCause.TheVariants as run
 use Rattle.ff_words.specs.Words.{command}
 use Rattle.ff_words.specs.declared.command.Command.{Command}
-use Rattle.ff_words.specs.declared.command.Command.TheVariants.{Run, Check, Plan, Mdf, Dc, Soak}
-use Rattle.ff_words.specs.declared.command.Given.{Given}
-use Rattle.ff_words.specs.declared.command.Given.TheVariants as source
+use Rattle.ff_words.specs.declared.command.Command.TheVariants as of
+use Rattle.ff_words.specs.declared.command.CommandFault.TheVariants as unread
+use Rattle.ff_words.specs.declared.command.Given.{Given as GivenText}
 
 -- what was read of an input that is known and at its end is all of it
 whole : (left now : Option (List ℕ)) (got bytes : List ℕ) → Consumes left now got → IsAtEnd now → left ≡ Some bytes → bytes ≡ got
@@ -49,191 +58,169 @@ known : (left : Option (List ℕ)) (P : List ℕ → Type 0) → IsSomeAnd left 
 known None P h = absurd h
 known (Some bytes) P h = (bytes, refl, h)
 
-module _ (law : ReadingLaw) (one : SpellingIsOfOneNet) (words : List (List ℕ)) (s : Scene) where
-  -- the records of the whole input, where it was read to its end
-  at_end : (t : Tree OpState) (tasks : ℕ) (got bytes : List ℕ) → bytes ≡ got → s.ended ≡ true
-      → seen_by version got s.ended ≡ seen_by version bytes true
-  at_end t tasks got bytes same ended = ap (λ (e : Bool). seen_by version got e) ended ∙ ap (λ (b : List ℕ). seen_by version b true) (sym same)
+-- the records of a whole input, where it was read to its end
+at_end : (got bytes : List ℕ) (ended : Bool) → bytes ≡ got → ended ≡ true → seen_by version got ended ≡ seen_by version bytes true
+at_end got bytes ended same is = ap (λ (e : Bool). seen_by version got e) is ∙ ap (λ (b : List ℕ). seen_by version b true) (sym same)
 
-  -- a run within its limits isn't over them
-  Overrun-within : (t : Tree OpState) (tasks : ℕ) (rejects : Option (List ℕ)) → IsQuiet s → IsOverrun (run_job t tasks rejects) (streams_of s)
-      → IsSomeAnd s.before.left (λ bytes. (limit_by version bytes ≡ None) × Fine op_node tasks t (seen_by version bytes true)) → ⊥
+module _ (law : ReadingLaw) (one : SpellingIsOfOneNet) (words : List (List ℕ)) (before now : Outside) where
+  -- a run within its limits isn't over them, however it stopped reading
+  Overrun-stopped : (t : Tree OpState) (tasks : ℕ) (got bytes : List ℕ) (why : Stop) → IsQuiet before now → Consumes before.left now.left got
+      → (Fine op_node tasks t (seen_by version got now.ended) → ⊥) → Stopped why (limit_by version got) now.ended now.left
+      → now.input_faults ≡ stop_count before.input_faults why → before.left ≡ Some bytes
+      → (limit_by version bytes ≡ None) × Fine op_node tasks t (seen_by version bytes true) → ⊥
+  Overrun-stopped t tasks got bytes stop.End quiet reads over stops counts is within =
+      let same = whole before.left now.left got bytes reads stops.2 is in
+      over (subst (λ xs. Fine op_node tasks t xs) (sym (at_end got bytes now.ended same stops.1)) within.1)
+  Overrun-stopped t tasks got bytes stop.Read quiet reads over stops counts is within = quiet.input (Rose-more before.input_faults now.input_faults counts)
+  Overrun-stopped t tasks got bytes (stop.Line f) quiet reads over stops counts is within =
+      None-Some (limit_by version bytes) f within.0 (limited law before.left now.left got bytes f reads stops is)
+
+  Overrun-within : (t : Tree OpState) (tasks : ℕ) (rejects : Option (List ℕ)) → IsQuiet before now → IsOverrun (run_job t tasks rejects) (streams_of before now)
+      → IsSomeAnd before.left (λ bytes. (limit_by version bytes ≡ None) × Fine op_node tasks t (seen_by version bytes true)) → ⊥
   Overrun-within t tasks rejects quiet o within =
-      let input = known s.before.left _ within in
-      let bytes = input.0 in
-      elim o.read_out [
-        | inl passed ↦ (let f = some_of (limit_by version o.got) passed.0 in
-            None-Some (limit_by version bytes) f.0 input.2.0 (limited law s.before.left s.now.left o.got bytes f.0 o.reads f.1 input.1))
-        | inr other ↦ elim other [
-          | inl end ↦ (let same = whole s.before.left s.now.left o.got bytes o.reads end.2 input.1 in
-              o.over (subst (λ xs. Fine op_node tasks t xs) (sym (at_end t tasks o.got bytes same end.1)) input.2.1))
-          | inr failed ↦ quiet.input (Rose-more s.before.input_faults s.now.input_faults failed.2)
-        ]
-      ]
+      let input = known before.left _ within in
+      Overrun-stopped t tasks o.got input.0 o.read_out.stop quiet o.reads o.over o.read_out.stops o.read_out.counts input.1 input.2
 
   -- a command within its limits isn't stopped by one
-  done-tasks : (job : Command) (t : Tree OpState) (m : ℕ) → IsQuiet s → IsInLimits job t s.before.left → DoneWith job t s (Err (Tasks m)) → ⊥
-  done-tasks (Run given cap queue tasks one rejects) t m quiet within d = Overrun-within t tasks rejects quiet d.1 within
-  done-tasks (Check given) t m quiet within d = d
-  done-tasks (Plan given) t m quiet within d = d
-  done-tasks (Mdf given workers) t m quiet within d = d
-  done-tasks (Dc rule n cut workers) t m quiet within d = d
-  done-tasks (Soak n workers cap queue) t m quiet within d = d
+  done-tasks : (job : Command) (t : Tree OpState) (m : ℕ) → IsQuiet before now → IsInLimits job t before.left → DoneWith job t before now (Err (Run (run.Tasks m))) → ⊥
+  done-tasks (of.Run given cap queue tasks one rejects) t m quiet within d = Overrun-within t tasks rejects quiet d.1 within
+  done-tasks (of.Check given) t m quiet within d = d
+  done-tasks _ t m quiet within d = d
 
-  done-line : (job : Command) (t : Tree OpState) (f : LineFault) (n : ℕ) → IsInLimits job t s.before.left → DoneWith job t s (Err (Line f n)) → ⊥
-  done-line (Run given cap queue tasks one rejects) t f n within d =
-      let input = known s.before.left _ within in
-      None-Some (limit_by version input.0) f input.2.0 (limited law s.before.left s.now.left d.ran.got input.0 f d.ran.reads d.ran.cause input.1)
-  done-line (Check given) t f n within d = d
-  done-line (Plan given) t f n within d = d
-  done-line (Mdf given workers) t f n within d = d
-  done-line (Dc rule n cut workers) t f k within d = d
-  done-line (Soak n workers cap queue) t f k within d = d
+  done-line : (job : Command) (t : Tree OpState) (f : LineFault) (n : ℕ) → IsInLimits job t before.left → DoneWith job t before now (Err (Run (run.Line f n))) → ⊥
+  done-line (of.Run given cap queue tasks one rejects) t f n within d =
+      let input = known before.left _ within in
+      None-Some (limit_by version input.0) f input.2.0 (limited law before.left now.left d.ran.got input.0 f d.ran.reads d.ran.stops input.1)
+  done-line (of.Check given) t f n within d = d
+  done-line _ t f n within d = d
 
   -- a command that was done is within its limits
-  beyond-done : (job : Command) (t : Tree OpState) (n : ℕ) → IsBeyond job t s.before.left → DoneWith job t s (Ok n) → ⊥
-  beyond-done (Run given cap queue tasks one rejects) t n beyond d =
-      let input = known s.before.left _ beyond in
+  beyond-done : (job : Command) (t : Tree OpState) (n : ℕ) → IsBeyond job t before.left → DoneWith job t before now (Ok n) → ⊥
+  beyond-done (of.Run given cap queue tasks one rejects) t n beyond d =
+      let input = known before.left _ beyond in
       let bytes = input.0 in
-      let cause = d.ran.cause in
-      let same = whole s.before.left s.now.left d.ran.got bytes d.ran.reads cause.2 input.1 in
+      let stops = d.ran.stops in
+      let same = whole before.left now.left d.ran.got bytes d.ran.reads stops.2 input.1 in
       elim input.2 [
         | inl passed ↦ (let f = some_of (limit_by version bytes) passed in
-            None-Some (limit_by version d.ran.got) f.0 cause.0 (ap (λ (b : List ℕ). limit_by version b) (sym same) ∙ f.1))
-        | inr over ↦ over (subst (λ xs. Fine op_node tasks t xs) (at_end t tasks d.ran.got bytes same cause.1) d.ran.answers.fine)
+            None-Some (limit_by version d.ran.got) f.0 stops.0 (ap (λ (b : List ℕ). limit_by version b) (sym same) ∙ f.1))
+        | inr over ↦ over (subst (λ xs. Fine op_node tasks t xs) (at_end d.ran.got bytes now.ended same stops.1) d.ran.answers.fine)
       ]
-  beyond-done (Check given) t n beyond d = beyond
-  beyond-done (Plan given) t n beyond d = beyond
-  beyond-done (Mdf given workers) t n beyond d = beyond
-  beyond-done (Dc rule k cut workers) t n beyond d = beyond
-  beyond-done (Soak k workers cap queue) t n beyond d = beyond
+  beyond-done (of.Check given) t n beyond d = beyond
+  beyond-done _ t n beyond d = beyond
 
-  done-status : (status : ℕ) (fault : Fault) (job : Command) (t : Tree OpState) → status ≡ fault_status fault → IsQuiet s → IsAccepted words s job t → IsInLimits job t s.before.left
-      → IsStop one words s fault → (status ≡ 0) ⊎ (status ≡ 6)
-  done-status status (Tasks m) job t is quiet a within stop = absurd (done-tasks job t m quiet within (Did-accepted one words s (Err (Tasks m)) job t a stop))
-  done-status status (Line f n) job t is quiet a within stop = absurd (done-line job t f n within (Did-accepted one words s (Err (Line f n)) job t a stop))
-  done-status status NoMemory job t is quiet a within stop = inr is
-  done-status status Usage job t is quiet a within stop = absurd stop
-  done-status status (File name) job t is quiet a within stop = absurd stop
-  done-status status (BadText at kind) job t is quiet a within stop = absurd stop
-  done-status status (BrokenRule fault) job t is quiet a within stop = absurd stop
-  done-status status NotBuilt job t is quiet a within stop = absurd stop
-  done-status status Write job t is quiet a within stop = absurd stop
-  done-status status (Rejects name n) job t is quiet a within stop = absurd stop
-  done-status status (Read n) job t is quiet a within stop = absurd stop
+  done-status : (status : ℕ) (fault : Fault) (job : Command) (t : Tree OpState) → status ≡ fault_status fault → IsQuiet before now → IsAccepted words before job t → IsInLimits job t before.left
+      → IsStop one words before now fault → (status ≡ 0) ⊎ (status ≡ 6)
+  done-status status (Run (run.Tasks m)) job t is quiet a within stop = absurd (done-tasks job t m quiet within (Did-accepted one words before now (Err (Run (run.Tasks m))) job t a stop))
+  done-status status (Run (run.Line f n)) job t is quiet a within stop = absurd (done-line job t f n within (Did-accepted one words before now (Err (Run (run.Line f n))) job t a stop))
+  done-status status (Words unread.NoMemory) job t is quiet a within stop = inr is
+  done-status status (Given given.NoMemory) job t is quiet a within stop = inr is
+  done-status status (Run run.NoMemory) job t is quiet a within stop = inr is
+  done-status status (Check check.NoMemory) job t is quiet a within stop = inr is
+  done-status status _ job t is quiet a within stop = absurd stop
 
-  beyond-status : (status : ℕ) (fault : Fault) → status ≡ fault_status fault → IsStop one words s fault → (status ≡ 3) ⊎ (status ≡ 6)
-  beyond-status status (Tasks m) is stop = inl is
-  beyond-status status (Line f n) is stop = inl is
-  beyond-status status NoMemory is stop = inr is
-  beyond-status status Usage is stop = absurd stop
-  beyond-status status (File name) is stop = absurd stop
-  beyond-status status (BadText at kind) is stop = absurd stop
-  beyond-status status (BrokenRule fault) is stop = absurd stop
-  beyond-status status NotBuilt is stop = absurd stop
-  beyond-status status Write is stop = absurd stop
-  beyond-status status (Rejects name n) is stop = absurd stop
-  beyond-status status (Read n) is stop = absurd stop
+  beyond-status : (status : ℕ) (fault : Fault) → status ≡ fault_status fault → IsStop one words before now fault → (status ≡ 3) ⊎ (status ≡ 6)
+  beyond-status status (Run (run.Tasks m)) is stop = inl is
+  beyond-status status (Run (run.Line f n)) is stop = inl is
+  beyond-status status (Words unread.NoMemory) is stop = inr is
+  beyond-status status (Given given.NoMemory) is stop = inr is
+  beyond-status status (Run run.NoMemory) is stop = inr is
+  beyond-status status (Check check.NoMemory) is stop = inr is
+  beyond-status status _ is stop = absurd stop
 
-  refused-status : (status : ℕ) (fault : Fault) → status ≡ fault_status fault → IsQuiet s → IsRefused words s → Comes words s (Err fault) → Counts s (Err fault) → (status ≡ 2) ⊎ (status ≡ 6)
-  refused-status status Usage is quiet r comes counts = absurd (None-description words r.given comes.0 r.is_description)
-  refused-status status (File name) is quiet r comes counts = absurd (quiet.files (Rose-more s.before.files_faults s.now.files_faults counts.files))
-  refused-status status (BadText at kind) is quiet r comes counts = inl is
-  refused-status status (BrokenRule fault) is quiet r comes counts = inl is
+  refused-status : (status : ℕ) (fault : Fault) → status ≡ fault_status fault → IsQuiet before now → IsRefused words before → Comes words before now (Err fault) → Counts before now (Err fault)
+      → (status ≡ 2) ⊎ (status ≡ 6)
+  refused-status status (Words unread.Usage) is quiet r comes counts = absurd (None-description words r.given comes.0 r.is_description)
+  refused-status status (Words unread.NoMemory) is quiet r comes counts = inr is
   refused-status status NotBuilt is quiet r comes counts = inl is
-  refused-status status (Tasks m) is quiet r comes counts = absurd (Did-refused one words s (Err (Tasks m)) r comes)
-  refused-status status Write is quiet r comes counts = absurd (Did-refused one words s (Err Write) r comes)
-  refused-status status (Rejects name n) is quiet r comes counts = absurd (Did-refused one words s (Err (Rejects name n)) r comes)
-  refused-status status (Read n) is quiet r comes counts = absurd (Did-refused one words s (Err (Read n)) r comes)
-  refused-status status (Line f n) is quiet r comes counts = absurd (Did-refused one words s (Err (Line f n)) r comes)
-  refused-status status NoMemory is quiet r comes counts = inr is
+  refused-status status (Given (given.File name)) is quiet r comes counts = absurd (quiet.files (Rose-more before.files_faults now.files_faults counts.files))
+  refused-status status (Given given.NoMemory) is quiet r comes counts = inr is
+  refused-status status (Given fault) is quiet r comes counts = inl is
+  refused-status status (Run cause) is quiet r comes counts = absurd (Did-refused one words before now (Err (Run cause)) r comes)
+  refused-status status (Check fault) is quiet r comes counts = absurd (Did-refused one words before now (Err (Check fault)) r comes)
 
-  pub complete : (status : ℕ) (answer : Result ℕ Fault) → status ≡ status_of answer → Comes words s answer → Counts s answer → IsComplete status words s
+  pub complete : (status : ℕ) (answer : Result ℕ Fault) → status ≡ status_of answer → Comes words before now answer → Counts before now answer → IsComplete status words before now
   complete status (Ok n) is comes counts = record {
     done = λ quiet job t a within. inl is;
-    beyond = λ quiet job t a beyond. absurd (beyond-done job t n beyond (Did-accepted one words s (Ok n) job t a comes));
-    refused = λ quiet r. absurd (Did-refused one words s (Ok n) r comes);
+    beyond = λ quiet job t a beyond. absurd (beyond-done job t n beyond (Did-accepted one words before now (Ok n) job t a comes));
+    refused = λ quiet r. absurd (Did-refused one words before now (Ok n) r comes);
   }
   complete status (Err fault) is comes counts = record {
-    done = λ quiet job t a within. done-status status fault job t is quiet a within (IsStop-accepted one words s fault job t quiet a comes counts);
-    beyond = λ quiet job t a beyond. beyond-status status fault is (IsStop-accepted one words s fault job t quiet a comes counts);
+    done = λ quiet job t a within. done-status status fault job t is quiet a within (IsStop-accepted one words before now fault job t quiet a comes counts);
+    beyond = λ quiet job t a beyond. beyond-status status fault is (IsStop-accepted one words before now fault job t quiet a comes counts);
     refused = λ quiet r. refused-status status fault is quiet r comes counts;
   }
 
 -- words that are no command are no command with anything
-None-given : (words : List (List ℕ)) → command words ≡ None → (P : Given → Type 0) → IsSomeAnd (description words) P → ⊥
-None-given words none P h = subst (λ (o : Option Given). IsSomeAnd o P) (ap (λ (c : Option Command). option_and_then given_to c) none) h
+None-given : (words : List (List ℕ)) → command words ≡ None → (P : GivenText → Type 0) → IsSomeAnd (description words) P → ⊥
+None-given words none P h = subst (λ (o : Option GivenText). IsSomeAnd o P) (ap (λ (c : Option Command). option_and_then given_to c) none) h
 
 some_command : (words : List (List ℕ)) → command words ≡ None → IsSome (command words) → ⊥
 some_command words none some = let e : is_some {T = Command} None ≡ true = ap is_some (sym none) ∙ some in cc
 
+-- the least status of each part behind the words
+given_low : (fault : GivenFault) → 2 ≤ given_status fault
+given_low (given.File name) = omega arith
+given_low _ = omega arith
+
+run_low : (cause : RunCause) → 2 ≤ run_status cause
+run_low (run.Tasks m) = omega arith
+run_low _ = omega arith
+
+check_low : (fault : CheckFault) → 2 ≤ check_status fault
+check_low check.Write = omega arith
+check_low check.NoMemory = omega arith
+
 -- which status comes with which answer
-module _ (words : List (List ℕ)) (s : Scene) where
-  No-command : (job : Command) → command words ≡ None → command words ≡ Some job → ⊥
-  No-command job none some = None-Some (command words) job none some
-
-  fault_usage : (fault : Fault) → Comes words s (Err fault) → fault_status fault ≡ 1 → command words ≡ None
-  fault_usage Usage comes is = comes.0
-  fault_usage (File name) comes is = absurd (omega arith)
-  fault_usage (BadText at kind) comes is = absurd (omega arith)
-  fault_usage (BrokenRule fault) comes is = absurd (omega arith)
+module _ (words : List (List ℕ)) (before now : Outside) where
+  fault_usage : (fault : Fault) → Comes words before now (Err fault) → fault_status fault ≡ 1 → command words ≡ None
+  fault_usage (Words unread.Usage) comes is = comes.0
+  fault_usage (Words unread.NoMemory) comes is = absurd (omega arith)
   fault_usage NotBuilt comes is = absurd (omega arith)
-  fault_usage (Tasks m) comes is = absurd (omega arith)
-  fault_usage Write comes is = absurd (omega arith)
-  fault_usage (Rejects name n) comes is = absurd (omega arith)
-  fault_usage (Read n) comes is = absurd (omega arith)
-  fault_usage (Line f n) comes is = absurd (omega arith)
-  fault_usage NoMemory comes is = absurd (omega arith)
+  fault_usage (Given fault) comes is = absurd (omega (arith, given_low fault))
+  fault_usage (Run cause) comes is = absurd (omega (arith, run_low cause))
+  fault_usage (Check fault) comes is = absurd (omega (arith, check_low fault))
 
-  pub usage : (status : ℕ) (answer : Result ℕ Fault) → status ≡ status_of answer → Comes words s answer → status ≡ 1 → command words ≡ None
+  pub usage : (status : ℕ) (answer : Result ℕ Fault) → status ≡ status_of answer → Comes words before now answer → status ≡ 1 → command words ≡ None
   usage status (Ok n) is comes one = absurd (omega arith)
   usage status (Err fault) is comes one = fault_usage fault comes (sym is ∙ one)
 
   fault_not_0 : (fault : Fault) → fault_status fault ≡ 0 → ⊥
-  fault_not_0 Usage is = omega arith
-  fault_not_0 (File name) is = omega arith
-  fault_not_0 (BadText at kind) is = omega arith
-  fault_not_0 (BrokenRule fault) is = omega arith
+  fault_not_0 (Words unread.Usage) is = omega arith
+  fault_not_0 (Words unread.NoMemory) is = omega arith
   fault_not_0 NotBuilt is = omega arith
-  fault_not_0 (Tasks m) is = omega arith
-  fault_not_0 Write is = omega arith
-  fault_not_0 (Rejects name n) is = omega arith
-  fault_not_0 (Read n) is = omega arith
-  fault_not_0 (Line f n) is = omega arith
-  fault_not_0 NoMemory is = omega arith
+  fault_not_0 (Given fault) is = omega (arith, given_low fault)
+  fault_not_0 (Run cause) is = omega (arith, run_low cause)
+  fault_not_0 (Check fault) is = omega (arith, check_low fault)
 
-  pub done : (status : ℕ) (answer : Result ℕ Fault) → status ≡ status_of answer → Comes words s answer → status ≡ 0 → (rejected : ℕ) × Did words s (Ok rejected)
+  pub done : (status : ℕ) (answer : Result ℕ Fault) → status ≡ status_of answer → Comes words before now answer → status ≡ 0 → (rejected : ℕ) × Did words before now (Ok rejected)
   done status (Ok n) is comes zero = (n, comes)
   done status (Err fault) is comes zero = absurd (fault_not_0 fault (sym is ∙ zero))
 
-  fault_no_command : (status : ℕ) (fault : Fault) → status ≡ fault_status fault → Comes words s (Err fault) → command words ≡ None → (status ≡ 1) ⊎ (status ≡ 6)
-  fault_no_command status Usage is comes none = inl is
-  fault_no_command status (File name) is comes none = absurd (None-description words (source.File name) none comes.0)
-  fault_no_command status (BadText at kind) is comes none = absurd (None-given words none _ comes.0)
-  fault_no_command status (BrokenRule fault) is comes none = absurd (None-given words none _ comes.0)
+  fault_no_command : (status : ℕ) (fault : Fault) → status ≡ fault_status fault → Comes words before now (Err fault) → command words ≡ None → (status ≡ 1) ⊎ (status ≡ 6)
+  fault_no_command status (Words unread.Usage) is comes none = inl is
+  fault_no_command status (Words unread.NoMemory) is comes none = inr is
   fault_no_command status NotBuilt is comes none = absurd (some_command words none comes.0.is_command)
-  fault_no_command status (Tasks m) is comes none = absurd (No-command comes.job none comes.is_command)
-  fault_no_command status Write is comes none = absurd (No-command comes.job none comes.is_command)
-  fault_no_command status (Rejects name n) is comes none = absurd (No-command comes.job none comes.is_command)
-  fault_no_command status (Read n) is comes none = absurd (No-command comes.job none comes.is_command)
-  fault_no_command status (Line f n) is comes none = absurd (No-command comes.job none comes.is_command)
-  fault_no_command status NoMemory is comes none = inr is
+  fault_no_command status (Given fault) is comes none = absurd (None-given words none _ comes.0)
+  fault_no_command status (Run cause) is comes none = absurd (None-Some (command words) comes.job none comes.is_command)
+  fault_no_command status (Check fault) is comes none = absurd (None-Some (command words) comes.job none comes.is_command)
 
-  pub no_command : (status : ℕ) (answer : Result ℕ Fault) → status ≡ status_of answer → Comes words s answer → command words ≡ None → (status ≡ 1) ⊎ (status ≡ 6)
-  no_command status (Ok n) is comes none = absurd (No-command comes.job none comes.is_command)
+  pub no_command : (status : ℕ) (answer : Result ℕ Fault) → status ≡ status_of answer → Comes words before now answer → command words ≡ None → (status ≡ 1) ⊎ (status ≡ 6)
+  no_command status (Ok n) is comes none = absurd (None-Some (command words) comes.job none comes.is_command)
   no_command status (Err fault) is comes none = fault_no_command status fault is comes none
 
--- the statuses
+-- each status is one of the six
 pub Contains-status : (status : ℕ) (answer : Result ℕ Fault) → status ≡ status_of answer → Contains (0 ∷ 1 ∷ 2 ∷ 3 ∷ 4 ∷ 6 ∷ []) status
 Contains-status status (Ok n) is = (0, omega arith, sym is)
-Contains-status status (Err Usage) is = (1, omega arith, sym is)
-Contains-status status (Err (File name)) is = (4, omega arith, sym is)
-Contains-status status (Err (BadText at kind)) is = (2, omega arith, sym is)
-Contains-status status (Err (BrokenRule fault)) is = (2, omega arith, sym is)
+Contains-status status (Err (Words unread.Usage)) is = (1, omega arith, sym is)
+Contains-status status (Err (Words unread.NoMemory)) is = (5, omega arith, sym is)
 Contains-status status (Err NotBuilt) is = (2, omega arith, sym is)
-Contains-status status (Err (Tasks m)) is = (3, omega arith, sym is)
-Contains-status status (Err Write) is = (4, omega arith, sym is)
-Contains-status status (Err (Rejects name n)) is = (4, omega arith, sym is)
-Contains-status status (Err (Read n)) is = (4, omega arith, sym is)
-Contains-status status (Err (Line f n)) is = (3, omega arith, sym is)
-Contains-status status (Err NoMemory) is = (5, omega arith, sym is)
+Contains-status status (Err (Given (given.File name))) is = (4, omega arith, sym is)
+Contains-status status (Err (Given given.NoMemory)) is = (5, omega arith, sym is)
+Contains-status status (Err (Given fault)) is = (2, omega arith, sym is)
+Contains-status status (Err (Run (run.Tasks m))) is = (3, omega arith, sym is)
+Contains-status status (Err (Run (run.Line f n))) is = (3, omega arith, sym is)
+Contains-status status (Err (Run run.NoMemory)) is = (5, omega arith, sym is)
+Contains-status status (Err (Run cause)) is = (4, omega arith, sym is)
+Contains-status status (Err (Check check.Write)) is = (4, omega arith, sym is)
+Contains-status status (Err (Check check.NoMemory)) is = (5, omega arith, sym is)

@@ -1,13 +1,14 @@
 -- Pieces that a sink takes one behind another.
-use Rattle.std.proofs.Common.{ℕ, List, [], ◌++◌, Option, None, Some, refl, sym, ap, ◌∙◌, append_assoc, append-nil}
+use Rattle.std.proofs.Common.{◌≡◌, ℕ, List, [], ◌++◌, ◌≤◌, Option, None, Some, refl, sym, ap, subst, ◌∙◌, append_assoc, append-nil, arith}
 use Rattle.std.specs.Io.KnownBytes.{Appends}
 use Rattle.std.specs.Prelude.{Result, Ok, Err, OnOk}
 use Rattle.std.proofs.KnownBytes.{Appends-trans}
-use Rattle.std.proofs.lemmas.Grind.{common_steps}
 use Rattle.ff_io.specs.Bytes.{AppendsPrefix}
+use Rattle.ff_io.specs.Faults.{HasCause}
+use Rattle.ff_top.specs.Messages.{Writes}
 
 -- what is a prefix of bytes is one of more bytes
-pub AppendsPrefix-more : (a b : Option (List ℕ)) (xs ys : List ℕ) → AppendsPrefix a b xs → AppendsPrefix a b (xs ++ ys)
+AppendsPrefix-more : (a b : Option (List ℕ)) (xs ys : List ℕ) → AppendsPrefix a b xs → AppendsPrefix a b (xs ++ ys)
 AppendsPrefix-more a b xs ys h = record {
   front = h.front;
   back = h.back ++ ys;
@@ -16,7 +17,7 @@ AppendsPrefix-more a b xs ys h = record {
 }
 
 -- a prefix behind a whole piece
-pub AppendsPrefix-then : (a b c : Option (List ℕ)) (xs ys : List ℕ) → Appends a b xs → AppendsPrefix b c ys → AppendsPrefix a c (xs ++ ys)
+AppendsPrefix-then : (a b c : Option (List ℕ)) (xs ys : List ℕ) → Appends a b xs → AppendsPrefix b c ys → AppendsPrefix a c (xs ++ ys)
 AppendsPrefix-then a b c xs ys whole h = record {
   front = xs ++ h.front;
   back = h.back;
@@ -24,17 +25,29 @@ AppendsPrefix-then a b c xs ys whole h = record {
   appends = Appends-trans a b c xs h.front whole h.appends;
 }
 
--- nothing was taken
-pub AppendsPrefix-nothing : (taken : Option (List ℕ)) (bytes : List ℕ) → AppendsPrefix taken taken bytes
-AppendsPrefix-nothing taken bytes = record { front = []; back = bytes; splits = refl; appends = Appends-nothing taken }
-  where
-    Appends-nothing : (taken : Option (List ℕ)) → Appends taken taken []
-    Appends-nothing None = tt
-    Appends-nothing (Some bytes) = sym (append-nil bytes)
+HasCause-then : {A E : Type 0} (r : Result A E) (a b c : ℕ) → a ≤ b → HasCause b c r → HasCause a c r
+HasCause-then (Ok x) a b c stays h = record { stays = omega (arith, stays, h.stays); rose = tt }
+HasCause-then (Err e) a b c stays h = record { stays = omega (arith, stays, h.stays); rose = omega (arith, stays, h.rose) }
 
-pub ruleset saying_steps = (common_steps, AppendsPrefix-more, AppendsPrefix-then)
-
--- a piece behind another
-pub OnOk-then : {A E : Type 0} (r : Result A E) (a b c : Option (List ℕ)) (xs ys : List ℕ) → Appends a b xs → OnOk r (Appends b c ys) → OnOk r (Appends a c (xs ++ ys))
+OnOk-then : {A E : Type 0} (r : Result A E) (a b c : Option (List ℕ)) (xs ys : List ℕ) → Appends a b xs → OnOk r (Appends b c ys) → OnOk r (Appends a c (xs ++ ys))
 OnOk-then (Ok x) a b c xs ys whole h = Appends-trans a b c xs ys whole h
 OnOk-then (Err e) a b c xs ys whole h = tt
+
+module _ {A E : Type 0} where
+  -- a piece failed, so that those behind it weren't written
+  pub Writes-stopped : {B : Type 0} (a b : Option (List ℕ)) (fa fb : ℕ) (xs ys : List ℕ) (r : Result A E) (e d : E) → r ≡ Err d
+      → Writes {A = B} {E = E} a b fa fb xs (Err e) → Writes a b fa fb (xs ++ ys) r
+  Writes-stopped a b fa fb xs ys r e d is w = subst (λ (q : Result A E). Writes a b fa fb (xs ++ ys) q) (sym is) (record {
+    all = tt;
+    front = AppendsPrefix-more a b xs ys w.front;
+    cause = record { stays = w.cause.stays; rose = w.cause.rose };
+  })
+
+  -- a piece behind another
+  pub Writes-then : {B : Type 0} (a b c : Option (List ℕ)) (fa fb fc : ℕ) (xs ys : List ℕ) (x : B) (r : Result A E)
+      → Writes {E = E} a b fa fb xs (Ok x) → Writes b c fb fc ys r → Writes a c fa fc (xs ++ ys) r
+  Writes-then a b c fa fb fc xs ys x r first second = record {
+    all = OnOk-then r a b c xs ys first.all second.all;
+    front = AppendsPrefix-then a b c xs ys first.all second.front;
+    cause = HasCause-then r fa fb fc first.cause.stays second.cause;
+  }

@@ -1,15 +1,24 @@
 -- How a run is finished, whose network answered.
 use Rattle.std.specs.Prelude.{◌≡◌, ℕ, ◌⊎◌, List, Option, Some, Result, Ok, Err}
 use Rattle.ff_io.specs.Files.{Holdings, KeepsAll, KeepsOthers}
-use Rattle.ff_single.specs.declared.fault.RunFault.{RunFault}
-use Rattle.ff_single.specs.declared.fault.RunFault.TheVariants as run
-use Rattle.ff_stream.specs.declared.report.Report.{Report}
-use Rattle.ff_top.specs.Jobs.{KeepsBut, Stored}
-use Rattle.ff_top.specs.declared.fault.Fault.{Fault}
-use Rattle.ff_top.specs.declared.fault.Fault.TheVariants.{Tasks, Write, Rejects, Read, Line, NoMemory}
+use Rattle.ff_stream.specs.declared.ending.Report.{Report}
+use Rattle.ff_stream.specs.declared.ending.Ending.{Ending}
+use Rattle.ff_stream.specs.declared.fault.RunFault.{RunFault}
+use Rattle.ff_stream.specs.declared.fault.RunFault.TheVariants as run
+use Rattle.ff_stream.specs.declared.ending.Stop.{Stop}
+use Rattle.ff_stream.specs.declared.ending.Stop.TheVariants as stop
+use Rattle.ff_top.specs.Running.{KeepsBut, Stored}
+use Rattle.ff_top.specs.declared.run_cause.RunCause.{RunCause}
+use Rattle.ff_top.specs.declared.run_cause.RunCause.TheVariants.{Tasks, Write, Rejects, Read, Line, NoMemory}
+
+-- when a file for the rejected records, of which there were `count`, isn't stored
+abbrev pub IsStoreFault : Option (List ℕ) → ℕ → RunCause → Type 0
+IsStoreFault rejects count (Rejects name n) = (rejects ≡ Some name) × (n ≡ count)
+IsStoreFault rejects count NoMemory = Unit {0}
+IsStoreFault rejects count _ = ⊥
 
 -- the file that is named for the rejected records failed
-pub record HasFailed (rejects : Option (List ℕ)) (report : Report) (told now : Option Holdings) (answer : Result ℕ Fault) : Type 0 where
+pub record HasFailed (rejects : Option (List ℕ)) (report : Report) (told now : Option Holdings) (answer : Result ℕ RunCause) : Type 0 where
   pub name : List ℕ
   pub is : answer ≡ Err (Rejects name report.rejected)
   pub named : rejects ≡ Some name
@@ -17,15 +26,22 @@ pub record HasFailed (rejects : Option (List ℕ)) (report : Report) (told now :
 
 -- The rejected records of a report are stored where a file is named for them, and the answer is `done`. Or the file failed,
 -- or memory ran out.
-abbrev pub Closes : Option (List ℕ) → Report → Option Holdings → Option Holdings → Result ℕ Fault → Result ℕ Fault → Type 0
+abbrev pub Closes : Option (List ℕ) → Report → Option Holdings → Option Holdings → Result ℕ RunCause → Result ℕ RunCause → Type 0
 Closes rejects report told now done answer =
-    ((answer ≡ done) × Stored rejects report.kept told now) ⊎ (HasFailed rejects report told now answer ⊎ ((answer ≡ Err NoMemory) × KeepsBut rejects told now))
+    ((answer ≡ done) × Stored rejects report.kept told now)
+    ⊎ (HasFailed rejects report told now answer
+    ⊎ ((answer ≡ Err NoMemory) × KeepsBut rejects told now))
+
+-- the answer of a run that stopped reading so, and rejected so many records
+abbrev pub closing : Stop → ℕ → Result ℕ RunCause
+closing stop.End n = Ok n
+closing stop.Read n = Err (Read n)
+closing (stop.Line fault) n = Err (Line fault n)
 
 -- by the answer of the network
-abbrev pub Finished : ℕ → Option (List ℕ) → Result Report RunFault → Option Holdings → Option Holdings → Result ℕ Fault → Type 0
-Finished tasks rejects (Ok report) told now answer = Closes rejects report told now (Ok report.rejected) answer
+abbrev pub Finished : ℕ → Option (List ℕ) → Result Ending RunFault → Option Holdings → Option Holdings → Result ℕ RunCause → Type 0
+Finished tasks rejects (Ok ending) told now answer =
+    Closes rejects ending.report told now (closing ending.stop ending.report.rejected) answer
 Finished tasks rejects (Err run.Tasks) told now answer = (answer ≡ Err (Tasks tasks)) × KeepsAll told now
 Finished tasks rejects (Err run.Write) told now answer = (answer ≡ Err Write) × KeepsAll told now
-Finished tasks rejects (Err (run.Read report)) told now answer = Closes rejects report told now (Err (Read report.rejected)) answer
-Finished tasks rejects (Err (run.Line fault report)) told now answer = Closes rejects report told now (Err (Line fault report.rejected)) answer
 Finished tasks rejects (Err run.NoMemory) told now answer = (answer ≡ Err NoMemory) × KeepsAll told now

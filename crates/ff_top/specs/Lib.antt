@@ -1,8 +1,9 @@
-pub mod Texts
-pub mod Messages
 pub mod Outside
-pub mod Jobs
+pub mod Texts
+pub mod Running
+pub mod Checking
+pub mod Commands
+pub mod Messages
 pub mod Endings
-pub mod Parts
 pub mod Finishing
 pub mod Working

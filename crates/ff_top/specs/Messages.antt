@@ -1,26 +1,34 @@
 -- What a call says on its second sink.
-use Rattle.std.specs.Prelude.{ℕ, ◌==◌, if◌then◌else◌, ◌⊎◌, List, [], ◌∷◌, ◌++◌, Option, Result, Ok, Err, codes}
+use Rattle.std.specs.Prelude.{ℕ, ◌==◌, if◌then◌else◌, ◌⊎◌, List, [], ◌∷◌, ◌++◌, Option, Result, Ok, Err, OnOk, codes}
 use Rattle.std.specs.Fmt.{decimal}
 use Rattle.std.specs.Io.KnownBytes.{Appends}
 use Rattle.std.specs.List.{flat_map}
 use Rattle.ff_io.specs.Bytes.{AppendsPrefix}
-use Rattle.ff_io.specs.Faults.{Rose}
+use Rattle.ff_io.specs.Faults.{HasCause}
+use Rattle.ff_rec.specs.Counts.{Rose}
 use Rattle.ff_rec.specs.declared.fault.LineFault.{LineFault}
-use Rattle.ff_rec.specs.declared.fault.LineFault.TheVariants.{TooLong as LongLine, TooManyFields, InputTooLong}
+use Rattle.ff_rec.specs.declared.fault.LineFault.TheVariants.{TooLong, TooManyFields, InputTooLong}
 use Rattle.ff_text.specs.declared.fault.TextKind.{TextKind}
-use Rattle.ff_text.specs.declared.fault.TextKind.TheVariants.{TooLong, BadByte, BadToken, UnknownName, Range, Deep, End, Large, TakenName}
+use Rattle.ff_text.specs.declared.fault.TextKind.TheVariants.{BadByte, BadToken, UnknownName, Range, Deep, End, Large, TakenName}
 use Rattle.ff_top.specs.declared.fault.Fault.{Fault}
-use Rattle.ff_top.specs.declared.fault.Fault.TheVariants.{Usage, File, BadText, BrokenRule, NotBuilt, Tasks, Write, Rejects, Read, Line, NoMemory}
+use Rattle.ff_top.specs.declared.fault.Fault.TheVariants.{Words, NotBuilt, Given, Run, Check}
+use Rattle.ff_top.specs.declared.given_fault.GivenFault.{GivenFault}
+use Rattle.ff_top.specs.declared.given_fault.GivenFault.TheVariants as given
+use Rattle.ff_top.specs.declared.run_cause.RunCause.{RunCause}
+use Rattle.ff_top.specs.declared.run_cause.RunCause.TheVariants as run
+use Rattle.ff_top.specs.declared.check.CheckFault.{CheckFault}
+use Rattle.ff_top.specs.declared.check.CheckFault.TheVariants as check
+use Rattle.ff_words.specs.declared.command.CommandFault.{CommandFault}
+use Rattle.ff_words.specs.declared.command.CommandFault.TheVariants as words
 
 -- which limit an input passes, and on which line
 abbrev pub line_message : LineFault → List ℕ
-line_message (LongLine n) = codes "ffrun: line " ++ decimal n ++ codes ": too long\n"
+line_message (TooLong n) = codes "ffrun: line " ++ decimal n ++ codes ": too long\n"
 line_message (TooManyFields n) = codes "ffrun: line " ++ decimal n ++ codes ": too many fields\n"
 line_message InputTooLong = codes "ffrun: input too long\n"
 
 -- what is wrong with a text at its first fault
 abbrev pub kind_name : TextKind → List ℕ
-kind_name TooLong = codes "too long"
 kind_name BadByte = codes "bad byte"
 kind_name BadToken = codes "unexpected token"
 kind_name UnknownName = codes "unknown name"
@@ -31,20 +39,8 @@ kind_name Large = codes "too large"
 kind_name TakenName = codes "name taken"
 
 -- what is wrong at a byte
-abbrev pub byte_message : ℕ → TextKind → List ℕ
-byte_message at kind = codes "ffrun: byte " ++ decimal at ++ codes ": " ++ (kind_name kind ++ codes "\n")
-
--- the first fault of a text; one that is too long has none
-abbrev pub text_message : ℕ → TextKind → List ℕ
-text_message at TooLong = codes "ffrun: text too long\n"
-text_message at BadByte = byte_message at BadByte
-text_message at BadToken = byte_message at BadToken
-text_message at UnknownName = byte_message at UnknownName
-text_message at Range = byte_message at Range
-text_message at Deep = byte_message at Deep
-text_message at End = byte_message at End
-text_message at Large = byte_message at Large
-text_message at TakenName = byte_message at TakenName
+abbrev pub byte_message : ℕ → List ℕ → List ℕ
+byte_message at name = codes "ffrun: byte " ++ decimal at ++ codes ": " ++ (name ++ codes "\n")
 
 -- child numbers, each behind a dot
 abbrev pub steps_text : List ℕ → List ℕ
@@ -57,64 +53,112 @@ place_text (k ∷ ks) = decimal k ++ steps_text ks
 
 -- the rule that a network breaks, and where
 abbrev pub rule_message : ℕ → List ℕ → List ℕ
-rule_message rule place = codes "ffrun: rule N" ++ decimal rule ++ codes " at " ++ place_text place ++ codes "\n"
+rule_message rule place =
+    codes "ffrun: rule N" ++ decimal rule ++ codes " at " ++ place_text place ++ codes "\n"
 
--- the message of each fault, with the newline at its end
+-- what every command says that runs out of memory, and whose output takes no more
+abbrev pub memory_message : List ℕ
+memory_message = codes "ffrun: out of memory\n"
+
+abbrev pub write_message : List ℕ
+write_message = codes "ffrun: write fault\n"
+
+-- the message of each fault, with the newline at its end: of words
+abbrev pub words_message : CommandFault → List ℕ
+words_message words.Usage = codes "ffrun: usage: run, check, plan, mdf, dc or soak\n"
+words_message words.NoMemory = memory_message
+
+-- of the text that is given
+abbrev pub given_message : GivenFault → List ℕ
+given_message (given.File name) = codes "ffrun: cannot read " ++ name ++ codes "\n"
+given_message given.TooLong = codes "ffrun: text too long\n"
+given_message (given.BadText at kind) = byte_message at (kind_name kind)
+given_message (given.BrokenRule fault) = rule_message fault.rule fault.path
+given_message given.NoMemory = memory_message
+
+-- of `run`
+abbrev pub run_message : RunCause → List ℕ
+run_message (run.Tasks m) = codes "ffrun: more than " ++ decimal m ++ codes " tasks\n"
+run_message run.Write = write_message
+run_message (run.Rejects name rejected) = codes "ffrun: cannot write " ++ name ++ codes "\n"
+run_message (run.Read rejected) = codes "ffrun: read fault\n"
+run_message (run.Line fault rejected) = line_message fault
+run_message run.NoMemory = memory_message
+
+-- of `check`
+abbrev pub check_message : CheckFault → List ℕ
+check_message check.Write = write_message
+check_message check.NoMemory = memory_message
+
+-- of any part
 abbrev pub message : Fault → List ℕ
-message Usage = codes "ffrun: usage: run, check, plan, mdf, dc or soak\n"
-message (File name) = codes "ffrun: cannot read " ++ name ++ codes "\n"
-message (BadText at kind) = text_message at kind
-message (BrokenRule fault) = rule_message fault.rule fault.path
+message (Words fault) = words_message fault
 message NotBuilt = codes "ffrun: not built\n"
-message (Tasks m) = codes "ffrun: more than " ++ decimal m ++ codes " tasks\n"
-message Write = codes "ffrun: write fault\n"
-message (Rejects name rejected) = codes "ffrun: cannot write " ++ name ++ codes "\n"
-message (Read rejected) = codes "ffrun: read fault\n"
-message (Line fault rejected) = line_message fault
-message NoMemory = codes "ffrun: out of memory\n"
+message (Given fault) = given_message fault
+message (Run fault) = run_message fault
+message (Check fault) = check_message fault
 
 -- the line that tells how many records were rejected, if any was
 abbrev pub rejected_line : ℕ → List ℕ
 rejected_line n = if n == 0 then [] else codes "ffrun: " ++ decimal n ++ codes " rejected\n"
 
--- how many records were rejected, where a fault tells it
+-- how many records were rejected, where a fault tells it: one of `run`, and any
+abbrev pub rejected_of : RunCause → ℕ
+rejected_of (run.Rejects name rejected) = rejected
+rejected_of (run.Read rejected) = rejected
+rejected_of (run.Line fault rejected) = rejected
+rejected_of _ = 0
+
 abbrev pub rejected_by : Fault → ℕ
-rejected_by Usage = 0
-rejected_by (File name) = 0
-rejected_by (BadText at kind) = 0
-rejected_by (BrokenRule fault) = 0
-rejected_by NotBuilt = 0
-rejected_by (Tasks m) = 0
-rejected_by Write = 0
-rejected_by (Rejects name rejected) = rejected
-rejected_by (Read rejected) = rejected
-rejected_by (Line fault rejected) = rejected
-rejected_by NoMemory = 0
+rejected_by (Run fault) = rejected_of fault
+rejected_by _ = 0
 
 -- all that is said: the message of a fault, and behind it the line of rejected records
 abbrev pub said : Result ℕ Fault → List ℕ
 said (Ok rejected) = rejected_line rejected
 said (Err fault) = message fault ++ rejected_line (rejected_by fault)
 
--- the status of each fault
-abbrev pub fault_status : Fault → ℕ
-fault_status Usage = 1
-fault_status (File name) = 4
-fault_status (BadText at kind) = 2
-fault_status (BrokenRule fault) = 2
-fault_status NotBuilt = 2
-fault_status (Tasks m) = 3
-fault_status Write = 4
-fault_status (Rejects name rejected) = 4
-fault_status (Read rejected) = 4
-fault_status (Line fault rejected) = 3
-fault_status NoMemory = 6
+-- the status of each fault: of words, of the text that is given, of `run`, of `check`, and of any part
+abbrev pub words_status : CommandFault → ℕ
+words_status words.Usage = 1
+words_status words.NoMemory = 6
 
+abbrev pub given_status : GivenFault → ℕ
+given_status (given.File name) = 4
+given_status given.TooLong = 2
+given_status (given.BadText at kind) = 2
+given_status (given.BrokenRule fault) = 2
+given_status given.NoMemory = 6
+
+abbrev pub run_status : RunCause → ℕ
+run_status (run.Tasks m) = 3
+run_status (run.Line fault rejected) = 3
+run_status run.NoMemory = 6
+run_status _ = 4
+
+abbrev pub check_status : CheckFault → ℕ
+check_status check.Write = 4
+check_status check.NoMemory = 6
+
+abbrev pub fault_status : Fault → ℕ
+fault_status (Words fault) = words_status fault
+fault_status NotBuilt = 2
+fault_status (Given fault) = given_status fault
+fault_status (Run fault) = run_status fault
+fault_status (Check fault) = check_status fault
+
+-- the status of a call
 abbrev pub status_of : Result ℕ Fault → ℕ
 status_of (Ok rejected) = 0
 status_of (Err fault) = fault_status fault
 
+-- Bytes were written with this answer: all of them, or a prefix where it failed, and then the count of faults rose.
+pub record Writes {A E : Type 0} (before now : Option (List ℕ)) (faults faults_now : ℕ) (bytes : List ℕ) (answer : Result A E) : Type 0 where
+  pub all : OnOk answer (Appends before now bytes)
+  pub front : AppendsPrefix before now bytes
+  pub cause : HasCause faults faults_now answer
+
 -- a sink took all these bytes, or a prefix of them where it failed
 abbrev pub Tells : Option (List ℕ) → Option (List ℕ) → ℕ → ℕ → List ℕ → Type 0
-Tells before now faults_before faults_now bytes =
-    Appends before now bytes ⊎ (Rose faults_before faults_now × AppendsPrefix before now bytes)
+Tells before now faults faults_now bytes =
+    Appends before now bytes ⊎ (Rose faults faults_now × AppendsPrefix before now bytes)

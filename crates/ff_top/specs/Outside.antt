@@ -1,44 +1,69 @@
--- What a call meets of the outside: files, input and output before and after it.
-use Rattle.std.specs.Prelude.{ℕ, Bool, List, Option}
+-- What a call meets of the outside: files, input, output and the sink of messages.
+use Rattle.std.specs.Prelude.{◌≡◌, ℕ, ◌⊎◌, Bool, List, Option, Result, Ok, Err}
 use Rattle.std.specs.Io.KnownBytes.{Keeps}
-use Rattle.ff_io.specs.Faults.{Rose}
+use Rattle.ff_rec.specs.Counts.{more, Rose}
 use Rattle.ff_io.specs.Files.{Holdings, KeepsAll}
-use Rattle.ff_single.specs.Streams.{Streams, streams}
+use Rattle.ff_stream.specs.Streams.{Streams}
 
--- what the files hold, the bytes that are left to read, those that the output took, and the counts of their faults
+-- What the files hold, the bytes that are left to read and whether the last read told the end, the bytes that the output took,
+-- and for each of the three how often it failed.
 pub record Outside : Type 0 where
   pub told : Option Holdings
   pub files_faults : ℕ
   pub left : Option (List ℕ)
+  pub ended : Bool
   pub input_faults : ℕ
   pub taken : Option (List ℕ)
   pub output_faults : ℕ
 
-abbrev pub outside : Option Holdings → ℕ → Option (List ℕ) → ℕ → Option (List ℕ) → ℕ → Outside
-outside told files_faults left input_faults taken output_faults =
-    record { told = told; files_faults = files_faults; left = left; input_faults = input_faults; taken = taken; output_faults = output_faults }
+-- what these devices tell
+abbrev pub outside_of : {F I O : Type 0} → (F → Option Holdings) → (F → ℕ) → (I → Option (List ℕ)) → (I → Bool) → (I → ℕ)
+    → (O → Option (List ℕ)) → (O → ℕ) → F → I → O → Outside
+outside_of told files_faults left ended input_faults taken output_faults files input out = record {
+  told = told files;
+  files_faults = files_faults files;
+  left = left input;
+  ended = ended input;
+  input_faults = input_faults input;
+  taken = taken out;
+  output_faults = output_faults out;
+}
 
--- the outside before and after a call, and whether its last read told the end
-pub record Scene : Type 0 where
-  pub before : Outside
-  pub now : Outside
-  pub ended : Bool
-
-abbrev pub scene : Outside → Outside → Bool → Scene
-scene before now ended = record { before = before; now = now; ended = ended }
+-- this, with the bytes that the sink of messages took, and how often it failed
+pub record World : Type 0 where
+  pub outside : Outside
+  pub said : Option (List ℕ)
+  pub err_faults : ℕ
 
 -- the input and the output of a call
-abbrev pub streams_of : Scene → Streams
-streams_of s = streams s.before.left s.now.left s.ended s.before.input_faults s.now.input_faults s.before.taken s.now.taken
+abbrev pub streams_of : Outside → Outside → Streams
+streams_of before now = record {
+  left = before.left;
+  left_now = now.left;
+  ended = now.ended;
+  faults = before.input_faults;
+  faults_now = now.input_faults;
+  taken = before.taken;
+  taken_now = now.taken;
+}
 
 -- nothing was read, nothing written, and every name of the files holds what it held
-pub record IsUntouched (s : Scene) : Type 0 where
-  pub left : Keeps s.before.left s.now.left
-  pub taken : Keeps s.before.taken s.now.taken
-  pub files : KeepsAll s.before.told s.now.told
+pub record IsUntouched (before now : Outside) : Type 0 where
+  pub left : Keeps before.left now.left
+  pub taken : Keeps before.taken now.taken
+  pub files : KeepsAll before.told now.told
 
 -- no count of faults rose
-pub record IsQuiet (s : Scene) : Type 0 where
-  pub files : Rose s.before.files_faults s.now.files_faults → ⊥
-  pub input : Rose s.before.input_faults s.now.input_faults → ⊥
-  pub output : Rose s.before.output_faults s.now.output_faults → ⊥
+pub record IsQuiet (before now : Outside) : Type 0 where
+  pub files : Rose before.files_faults now.files_faults → ⊥
+  pub input : Rose before.input_faults now.input_faults → ⊥
+  pub output : Rose before.output_faults now.output_faults → ⊥
+
+-- a count of faults is the same, or one more where the device failed and something else came of it
+abbrev pub StaysOrRises : ℕ → ℕ → Type 0
+StaysOrRises before now = (now ≡ before) ⊎ (now ≡ more before)
+
+-- a count of faults after a call with this answer, where each of its faults raises the count so
+abbrev pub count_by : {A C : Type 0} → (ℕ → C → ℕ) → ℕ → Result A C → ℕ
+count_by rises n (Ok a) = n
+count_by rises n (Err cause) = rises n cause

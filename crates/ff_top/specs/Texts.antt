@@ -1,5 +1,5 @@
 -- The description of a network that a command is given, in its words or by a file.
-use Rattle.std.specs.Prelude.{◌≡◌, ℕ, ◌≤◌, List, length, Option, None, Some, option_and_then, IsSome}
+use Rattle.std.specs.Prelude.{◌≡◌, ℕ, ◌<◌, ◌≤◌, List, length, Option, None, Some}
 use Rattle.ff_io.specs.Files.{Holdings, HoldsBytes}
 use Rattle.ff_net.specs.Rules.{first_fault}
 use Rattle.ff_net.specs.Tree.{Tree}
@@ -14,36 +14,18 @@ use Rattle.ff_text.specs.Printing.{tokens_of}
 use Rattle.ff_text.specs.Reading.{IsReadFault}
 use Rattle.ff_text.specs.declared.fault.ReadFault.TheVariants.{Text as TextFault}
 use Rattle.ff_text.specs.declared.fault.TextKind.{TextKind}
-use Rattle.ff_words.specs.Words.{command}
-use Rattle.ff_words.specs.declared.command.Command.{Command}
-use Rattle.ff_words.specs.declared.command.Command.TheVariants.{Run, Check, Plan, Mdf, Dc, Soak}
+use Rattle.ff_rec.specs.Counts.{more}
+use Rattle.ff_top.specs.declared.given_fault.GivenFault.{GivenFault}
+use Rattle.ff_top.specs.declared.given_fault.GivenFault.TheVariants.{File, TooLong, BadText, BrokenRule, NoMemory}
 use Rattle.ff_words.specs.declared.command.Given.{Given}
 use Rattle.ff_words.specs.declared.command.Given.TheVariants as source
-
--- the text or file of a command that is built
-abbrev pub given_to : Command → Option Given
-given_to (Run given cap queue tasks one rejects) = Some given
-given_to (Check given) = Some given
-given_to (Plan given) = None
-given_to (Mdf given workers) = None
-given_to (Dc rule n cut workers) = None
-given_to (Soak n workers cap queue) = None
-
--- that of the command that these words are
-abbrev pub description : List (List ℕ) → Option Given
-description words = option_and_then given_to (command words)
-
--- the words are a command, and it isn't built
-pub record IsNotBuilt (words : List (List ℕ)) : Type 0 where
-  pub is_command : IsSome (command words)
-  pub not_built : description words ≡ None
 
 -- the text that is given, as far as the files tell what they hold
 abbrev pub IsText : Option Holdings → Given → List ℕ → Type 0
 IsText told (source.Text bytes) text = text ≡ bytes
 IsText told (source.File name) text = HoldsBytes told name text
 
--- the same, where it is known: it stands in the words, or the files tell it
+-- the text that is given, where it is known: it stands in the words, or the files tell it
 abbrev pub IsKnown : Option Holdings → Given → List ℕ → Type 0
 IsKnown told (source.Text bytes) text = text ≡ bytes
 IsKnown None (source.File name) text = ⊥
@@ -74,16 +56,47 @@ pub record IsGiven (told : Option Holdings) (given : Given) (t : Tree OpState) :
   pub spelled : IsSpelled text t
   pub kept : KeepsRules t
 
--- the text that is given spells no network: it is too long, or this is its first fault
+-- a network breaks this rule, the lowest, at its first place
+abbrev pub Breaks : Tree OpState → RuleFault → Type 0
+Breaks t fault = first_fault op_node version t ≡ Some (fault.rule, fault.path)
+
+-- the text that is given has too many bytes
+pub record IsLong (told : Option Holdings) (given : Given) : Type 0 where
+  pub text : List ℕ
+  pub is_text : IsText told given text
+  pub long : text_limit < length text
+
+-- the text that is given spells no network: this is its first fault
 pub record IsBadText (told : Option Holdings) (given : Given) (at : ℕ) (kind : TextKind) : Type 0 where
   pub text : List ℕ
   pub is_text : IsText told given text
   pub fault : IsReadFault text (TextFault at kind)
 
--- the text that is given spells a network that breaks this rule, the lowest, at its first place
+-- the text that is given spells a network that breaks this rule
 pub record IsBroken (told : Option Holdings) (given : Given) (fault : RuleFault) : Type 0 where
   pub text : List ℕ
   pub is_text : IsText told given text
   pub net : Tree OpState
   pub spelled : IsSpelled text net
-  pub breaks : first_fault op_node version net ≡ Some (fault.rule, fault.path)
+  pub breaks : Breaks net fault
+
+-- when each fault of the text that is given comes
+abbrev pub IsGivenFault : Option Holdings → Given → GivenFault → Type 0
+IsGivenFault told given (File name) = given ≡ source.File name
+IsGivenFault told given TooLong = IsLong told given
+IsGivenFault told given (BadText at kind) = IsBadText told given at kind
+IsGivenFault told given (BrokenRule fault) = IsBroken told given fault
+IsGivenFault told given NoMemory = Unit {0}
+
+-- when each fault of the bytes of a text comes
+abbrev pub IsSpelledFault : List ℕ → GivenFault → Type 0
+IsSpelledFault text (File name) = ⊥
+IsSpelledFault text TooLong = text_limit < length text
+IsSpelledFault text (BadText at kind) = IsReadFault text (TextFault at kind)
+IsSpelledFault text (BrokenRule fault) = (t : Tree OpState) × IsSpelled text t × Breaks t fault
+IsSpelledFault text NoMemory = Unit {0}
+
+-- how often the files had failed, where the text was at fault so
+abbrev pub given_files : ℕ → GivenFault → ℕ
+given_files n (File name) = more n
+given_files n _ = n

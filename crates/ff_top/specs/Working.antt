@@ -1,39 +1,47 @@
 -- What a command does, from the text that it is given to its answer.
-use Rattle.std.specs.Prelude.{◌≡◌, ℕ, ◌⊎◌, Result, Err}
+use Rattle.std.specs.Prelude.{◌≡◌, ℕ, ◌⊎◌, None, Some, Result, Err}
 use Rattle.ff_net.specs.Tree.{Tree}
 use Rattle.ff_ops.specs.Operation.{OpState}
-use Rattle.ff_top.specs.Jobs.{Ran, Printed, run_job}
-use Rattle.ff_top.specs.Outside.{Scene, IsUntouched}
-use Rattle.ff_top.specs.Parts.{IsGivenFault}
-use Rattle.ff_top.specs.Texts.{IsGiven}
+use Rattle.ff_top.specs.Commands.{DoneWith, given_to}
+use Rattle.ff_top.specs.Outside.{Outside, IsUntouched}
+use Rattle.ff_top.specs.Texts.{IsGiven, IsGivenFault}
 use Rattle.ff_top.specs.declared.fault.Fault.{Fault}
-use Rattle.ff_top.specs.declared.fault.Fault.TheVariants.{NotBuilt}
+use Rattle.ff_top.specs.declared.fault.Fault.TheVariants as fault
+use Rattle.ff_top.specs.declared.given_fault.GivenFault.{GivenFault}
 use Rattle.ff_words.specs.declared.command.Command.{Command}
-use Rattle.ff_words.specs.declared.command.Command.TheVariants.{Run, Check, Plan, Mdf, Dc, Soak}
 use Rattle.ff_words.specs.declared.command.Given.{Given}
 
 -- the text that is given is at fault, and nothing else was done
-pub record IsRefusal (given : Given) (s : Scene) (answer : Result ℕ Fault) : Type 0 where
-  pub fault : Fault
-  pub is : answer ≡ Err fault
-  pub of_given : IsGivenFault s.before.told given fault
-  pub untouched : IsUntouched s
+pub record IsRefusal (given : Given) (before now : Outside) (answer : Result ℕ Fault) : Type 0 where
+  pub cause : GivenFault
+  pub is : answer ≡ Err (fault.Given cause)
+  pub of_given : IsGivenFault before.told given cause
+  pub untouched : IsUntouched before now
 
 -- it spells a network that keeps all rules, with which this was done
-pub record IsWork (given : Given) (s : Scene) (Done : Tree OpState → Scene → Result ℕ Fault → Type 0) (answer : Result ℕ Fault) : Type 0 where
+pub record IsWork (given : Given) (Done : Tree OpState → Outside → Outside → Result ℕ Fault → Type 0) (before now : Outside) (answer : Result ℕ Fault) : Type 0 where
   pub net : Tree OpState
-  pub spelled : IsGiven s.before.told given net
-  pub done : Done net s answer
+  pub spelled : IsGiven before.told given net
+  pub done : Done net before now answer
 
 -- one of the two
-abbrev pub Handled : Given → Scene → (Tree OpState → Scene → Result ℕ Fault → Type 0) → Result ℕ Fault → Type 0
-Handled given s Done answer = IsRefusal given s answer ⊎ IsWork given s Done answer
+abbrev pub Handled : Given → (Tree OpState → Outside → Outside → Result ℕ Fault → Type 0)
+    → Outside → Outside → Result ℕ Fault → Type 0
+Handled given Done before now answer =
+    IsRefusal given before now answer ⊎ IsWork given Done before now answer
 
--- what each command does; those that aren't built do nothing
-abbrev pub Worked : Command → Scene → Result ℕ Fault → Type 0
-Worked (Run given cap queue tasks one rejects) s answer = Handled given s (λ t after a. Ran (run_job t tasks rejects) rejects after a) answer
-Worked (Check given) s answer = Handled given s (λ t after a. Printed t after a) answer
-Worked (Plan given) s answer = (answer ≡ Err NotBuilt) × IsUntouched s
-Worked (Mdf given workers) s answer = (answer ≡ Err NotBuilt) × IsUntouched s
-Worked (Dc rule n cut workers) s answer = (answer ≡ Err NotBuilt) × IsUntouched s
-Worked (Soak n workers cap queue) s answer = (answer ≡ Err NotBuilt) × IsUntouched s
+-- a command that isn't built does nothing
+pub record IsUnbuilt (job : Command) (before now : Outside) (answer : Result ℕ Fault) : Type 0 where
+  pub is : answer ≡ Err fault.NotBuilt
+  pub none : given_to job ≡ None
+  pub untouched : IsUntouched before now
+
+-- a command that is built is given this
+pub record IsBuilt (job : Command) (before now : Outside) (answer : Result ℕ Fault) : Type 0 where
+  pub given : Given
+  pub is : given_to job ≡ Some given
+  pub handled : Handled given (DoneWith job) before now answer
+
+-- what a command does
+abbrev pub Worked : Command → Outside → Outside → Result ℕ Fault → Type 0
+Worked job before now answer = IsUnbuilt job before now answer ⊎ IsBuilt job before now answer

@@ -1,37 +1,27 @@
 // Why a call didn't do its work.
 ghost use Rattle.std.specs.Prelude.{◌≡◌};
-ghost use Rattle.ff_top.specs.Messages.{rejected_by, fault_status};
+ghost use Rattle.ff_top.specs.Messages.{fault_status, message, rejected_by, words_message, words_status, Writes};
 
-use ff_net::RuleFault;
-use ff_rec::{LineFault, NoMemory};
-use ff_text::TextKind;
-use ff_words::Text;
-use std::alloc::AllocError;
+use crate::check::CheckFault;
+use crate::given_fault::GivenFault;
+use crate::pieces::{write_memory, write_piece};
+use crate::run_cause::RunCause;
+use ff_io::{Failed, Sink};
+use ff_words::CommandFault;
 
-/// Each cause has a status and a message. Those behind a run have the number of records that were rejected.
+/// The fault of the part that was at fault. Each has a status and a message.
 #[derive(Debug, Drop)]
 pub enum Fault {
-    /// The words aren't a command.
-    Usage,
-    /// The file of this name couldn't be read.
-    File(Text),
-    /// The text spells no network: its first fault, and the place of its first byte.
-    BadText { at: usize, kind: TextKind },
-    /// The network breaks a rule.
-    BrokenRule(RuleFault),
+    /// The words.
+    Words(CommandFault),
     /// The command isn't one of those that are built.
     NotBuilt,
-    /// A wrap has more than so many tasks.
-    Tasks(u64),
-    /// The output took no more bytes.
-    Write,
-    /// The file of this name, for the rejected records, couldn't be written.
-    Rejects(Text, u64),
-    /// The input gave no more bytes, before its end.
-    Read(u64),
-    /// A line or the input passes a limit.
-    Line(LineFault, u64),
-    NoMemory,
+    /// The text that is given.
+    Given(GivenFault),
+    /// The command `run`.
+    Run(RunCause),
+    /// The command `check`.
+    Check(CheckFault),
 }
 
 impl Fault {
@@ -40,11 +30,11 @@ impl Fault {
         ensures { result ≡ fault_status self.now }
     {
         match self {
-            Fault::Usage => 1,
-            Fault::BadText { .. } | Fault::BrokenRule(_) | Fault::NotBuilt => 2,
-            Fault::Tasks(_) | Fault::Line(_, _) => 3,
-            Fault::File(_) | Fault::Write | Fault::Rejects(_, _) | Fault::Read(_) => 4,
-            Fault::NoMemory => 6,
+            Fault::Words(fault) => words_status(*fault),
+            Fault::NotBuilt => 2,
+            Fault::Given(fault) => fault.status(),
+            Fault::Run(cause) => cause.status(),
+            Fault::Check(fault) => fault.status(),
         }
     }
 
@@ -53,32 +43,45 @@ impl Fault {
         ensures { result ≡ rejected_by self.now }
     {
         match self {
-            Fault::Rejects(_, rejected) | Fault::Read(rejected) | Fault::Line(_, rejected) => {
-                *rejected
-            }
+            Fault::Run(cause) => cause.rejected(),
             _ => 0,
+        }
+    }
+
+    /// Writes the message.
+    pub fn write<E: Sink>(&self, sink: &mut E) -> Result<(), Failed>
+        ensures { Writes (E.taken sink.old) (E.taken sink.new)
+            (E.faults sink.old) (E.faults sink.new) (message self.now) result }
+    {
+        match self {
+            Fault::Words(fault) => write_words(*fault, sink),
+            Fault::NotBuilt => write_piece(sink, b"ffrun: not built\n"),
+            Fault::Given(fault) => fault.write(sink),
+            Fault::Run(cause) => cause.write(sink),
+            Fault::Check(fault) => fault.write(sink),
         }
     }
 }
 
-impl From<NoMemory> for Fault {
-    ghost use Rattle.std.specs.Prelude.{◌≡◌};
-    ghost use Rattle.ff_top.specs.declared.fault.Fault.TheVariants.{NoMemory};
-
-    ghost from_gives = { λ _ fault. fault ≡ NoMemory };
-
-    fn from(_: NoMemory) -> Fault {
-        Fault::NoMemory
+// The status of words that are no command.
+fn words_status(fault: CommandFault) -> u8
+    ensures { result ≡ words_status fault }
+{
+    match fault {
+        CommandFault::Usage => 1,
+        CommandFault::NoMemory => 6,
     }
 }
 
-impl From<AllocError> for Fault {
-    ghost use Rattle.std.specs.Prelude.{◌≡◌};
-    ghost use Rattle.ff_top.specs.declared.fault.Fault.TheVariants.{NoMemory};
-
-    ghost from_gives = { λ _ fault. fault ≡ NoMemory };
-
-    fn from(_: AllocError) -> Fault {
-        Fault::NoMemory
+// Writes the message of words that are no command.
+fn write_words<E: Sink>(fault: CommandFault, sink: &mut E) -> Result<(), Failed>
+    ensures { Writes (E.taken sink.old) (E.taken sink.new) (E.faults sink.old) (E.faults sink.new)
+        (words_message fault) result }
+{
+    match fault {
+        CommandFault::Usage => {
+            write_piece(sink, b"ffrun: usage: run, check, plan, mdf, dc or soak\n")
+        }
+        CommandFault::NoMemory => write_memory(sink),
     }
 }

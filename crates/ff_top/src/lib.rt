@@ -1,17 +1,24 @@
-//! The call `ffrun`, which `main` makes: from words and bytes to bytes and a status.
+//! The call `ffrun`, which `main` makes: from words and bytes to bytes and a status. A command's words stand in `ff_words`.
+//! What it does stands in a file of its own here, as `run.rt`, and so do its faults with their messages, as `run_cause.rt`.
 #![tactic(auto)]
 
 mod check;
+mod devices;
 mod execute;
 mod fault;
-mod message;
+mod gathered;
+mod given;
+mod given_fault;
+mod pieces;
+mod place;
 mod rejects;
 mod run;
+mod run_cause;
 mod tell;
-mod texts;
 mod top;
-mod words;
 
+pub use devices::{Devices, Seen};
+pub use ff_words::{Command, CommandFault, Given, Text, read_command};
 pub use top::{ffrun, refuse_memory};
 
 #[cfg(test)]

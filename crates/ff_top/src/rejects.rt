@@ -1,14 +1,13 @@
 // The file for the rejected records.
 ghost use Rattle.std.specs.Prelude.{◌≡◌, IfOk, IfErr, OnOk};
 ghost use Rattle.ff_rec.specs.Lines.{text};
-ghost use Rattle.ff_top.specs.Endings.{files_count};
-ghost use Rattle.ff_top.specs.Jobs.{KeepsBut, Stored};
-ghost use Rattle.ff_top.specs.Parts.{IsStoreFault};
+ghost use Rattle.ff_top.specs.Finishing.{IsStoreFault};
+ghost use Rattle.ff_top.specs.Outside.{count_by};
+ghost use Rattle.ff_top.specs.Running.{KeepsBut, Stored, run_files};
 
-use crate::fault::Fault;
+use crate::run_cause::RunCause;
 use ff_io::{Files, StoreFault};
-use ff_node::Records;
-use ff_rec::{NoMemory, print_record};
+use ff_rec::{NoMemory, Records, print_record};
 use ff_single::Report;
 use ff_words::Text;
 use std::alloc::Global;
@@ -19,12 +18,13 @@ pub fn store_rejects<F: Files>(
     files: &mut F,
     rejects: Option<Text>,
     report: Report,
-) -> Result<u64, Fault>
+) -> Result<u64, RunCause>
     ensures number { IfOk result (λ n. n ≡ report.rejected) }
-    ensures stored { OnOk result (Stored rejects report.kept (F.told files.old) (F.told files.new)) }
+    ensures stored { OnOk result
+        (Stored rejects report.kept (F.told files.old) (F.told files.new)) }
     ensures fault { IfErr result (IsStoreFault rejects report.rejected) }
     ensures keeps { KeepsBut rejects (F.told files.old) (F.told files.new) }
-    ensures counts { F.faults files.new ≡ files_count (F.faults files.old) result }
+    ensures counts { F.faults files.new ≡ count_by run_files (F.faults files.old) result }
 {
     let Some(name) = rejects else {
         return Ok(report.rejected);
@@ -32,8 +32,8 @@ pub fn store_rejects<F: Files>(
     let text = text_of(alloc, report.kept)?;
     match files.store(name.as_str(), &text) {
         Ok(()) => Ok(report.rejected),
-        Err(StoreFault::Failed) => Err(Fault::Rejects(name, report.rejected)),
-        Err(StoreFault::NoMemory) => Err(Fault::NoMemory),
+        Err(StoreFault::Failed) => Err(RunCause::Rejects(name, report.rejected)),
+        Err(StoreFault::NoMemory) => Err(RunCause::NoMemory),
     }
 }
 

@@ -1,21 +1,18 @@
-// A network over the records of the input.
-ghost use Rattle.std.specs.Prelude.{◌≡◌, is_some};
+// The command `run`: a network over the records of the input.
+ghost use Rattle.std.specs.Prelude.{◌≡◌};
 ghost use Rattle.ff_net.specs.Tree.{tree_of};
-ghost use Rattle.ff_single.specs.Endings.{Ran as RanOver, CountsInput as CountsRead, output_count as write_count, job};
-ghost use Rattle.ff_single.specs.Streams.{streams};
-ghost use Rattle.ff_ops.specs.Operation.{op_node};
-ghost use Rattle.ff_top.specs.Endings.{CountsInput, files_count, output_count};
-ghost use Rattle.ff_top.specs.Finishing.{Finished};
-ghost use Rattle.ff_top.specs.Jobs.{Ran, run_job};
-ghost use Rattle.ff_top.specs.Outside.{outside, scene};
+ghost use Rattle.ff_top.specs.Finishing.{closing, Finished};
+ghost use Rattle.ff_top.specs.Outside.{count_by};
+ghost use Rattle.ff_top.specs.Running.{Ran, RunCounts, run_files, run_job};
 ghost use Rattle.ff_top.specs.Texts.{version};
 
-use crate::fault::Fault;
+use crate::devices::{Devices, Seen};
 use crate::rejects::store_rejects;
+use crate::run_cause::RunCause;
 use ff_io::{Files, Sink, Source};
 use ff_net::Checked;
-use ff_ops::OpNode;
-use ff_single::{Report, RunFault, run_flowing, run_whole};
+use ff_ops::Op;
+use ff_single::{Ending, RunFault, Stop, run_single};
 use ff_words::Text;
 use std::alloc::Global;
 
@@ -24,79 +21,66 @@ use std::alloc::Global;
 pub struct Order {
     /// The most tasks of a wrap.
     pub tasks: u64,
-    /// The whole input is read first.
-    pub one: bool,
     /// The file for the rejected records.
     pub rejects: Option<Text>,
 }
 
 /// Runs a network. The answer is how many records its nodes rejected.
-pub fn run<F: Files, I: Source, O: Sink>(
+pub fn run<F: Files, I: Source, O: Sink, E: Sink>(
     alloc: Global,
-    checked: &Checked<OpNode>,
+    checked: &Checked<Op>,
     order: Order,
-    files: &mut F,
-    input: &mut I,
-    out: &mut O,
-) -> Result<u64, Fault>
+    devices: &mut Devices<F, I, O, E>,
+) -> Result<u64, RunCause>
     requires { checked.now.version ≡ version }
-    ensures ran { Ran (run_job (tree_of checked.now.net) order.tasks order.rejects) order.rejects
-        (scene (outside (F.told files.old) (F.faults files.old) (I.left input.old) (I.faults input.old) (O.taken out.old) (O.faults out.old))
-        (outside (F.told files.new) (F.faults files.new) (I.left input.new) (I.faults input.new) (O.taken out.new) (O.faults out.new)) (I.ended input.new)) result }
-    ensures files_faults { F.faults files.new ≡ files_count (F.faults files.old) result }
-    ensures input_faults { CountsInput (I.faults input.old) (I.faults input.new) result }
-    ensures output_faults { O.faults out.new ≡ output_count (O.faults out.old) result }
+    ensures ran { let seen = ⟦<Devices<F, I, O, E> as Seen>⟧.outside in
+        let job = run_job (tree_of checked.now.net) order.tasks order.rejects in
+        Ran job order.rejects (seen devices.old) (seen devices.new) result }
+    ensures counts { let seen = ⟦<Devices<F, I, O, E> as Seen>⟧.outside in
+        RunCounts (seen devices.old) (seen devices.new) result }
+    ensures err { devices.new.err ≡ devices.old.err }
 {
     let keep = order.rejects.is_some();
-    let answer = run_over(alloc, checked, order.tasks, order.one, keep, input, out);
-    finish(alloc, order.tasks, order.rejects, files, answer)
-}
-
-// Runs it in the way that is asked for.
-fn run_over<I: Source, O: Sink>(
-    alloc: Global,
-    checked: &Checked<OpNode>,
-    tasks: u64,
-    one: bool,
-    keep: bool,
-    input: &mut I,
-    out: &mut O,
-) -> Result<Report, RunFault>
-    ensures run { RanOver (job op_node (tree_of checked.now.net) checked.now.version tasks keep)
-        (streams (I.left input.old) (I.left input.new) (I.ended input.new) (I.faults input.old) (I.faults input.new) (O.taken out.old) (O.taken out.new)) result }
-    ensures input_faults { CountsRead (I.faults input.old) (I.faults input.new) result }
-    ensures output_faults { O.faults out.new ≡ write_count (O.faults out.old) result }
-{
-    if one {
-        run_whole(alloc, checked, tasks, keep, input, out)
-    } else {
-        run_flowing(alloc, checked, tasks, keep, input, out)
-    }
+    let answer = run_single(
+        alloc,
+        checked,
+        order.tasks,
+        keep,
+        &mut devices.input,
+        &mut devices.out,
+    );
+    finish(alloc, order, &mut devices.files, answer)
 }
 
 // Stores the rejected records of a run that came to an end, and tells how it ended.
 fn finish<F: Files>(
     alloc: Global,
-    tasks: u64,
-    rejects: Option<Text>,
+    order: Order,
     files: &mut F,
-    answer: Result<Report, RunFault>,
-) -> Result<u64, Fault>
-    ensures ends { Finished tasks rejects answer (F.told files.old) (F.told files.new) result }
-    ensures counts { F.faults files.new ≡ files_count (F.faults files.old) result }
+    answer: Result<Ending, RunFault>,
+) -> Result<u64, RunCause>
+    ensures ends { Finished order.tasks order.rejects answer
+        (F.told files.old) (F.told files.new) result }
+    ensures counts { F.faults files.new ≡ count_by run_files (F.faults files.old) result }
 {
     match answer {
-        Ok(report) => store_rejects(alloc, files, rejects, report),
-        Err(RunFault::Tasks) => Err(Fault::Tasks(tasks)),
-        Err(RunFault::Write) => Err(Fault::Write),
-        Err(RunFault::Read(report)) => {
-            let rejected = store_rejects(alloc, files, rejects, report)?;
-            Err(Fault::Read(rejected))
+        Ok(ending) => {
+            let rejected = store_rejects(alloc, files, order.rejects, ending.report)?;
+            close(ending.stop, rejected)
         }
-        Err(RunFault::Line(fault, report)) => {
-            let rejected = store_rejects(alloc, files, rejects, report)?;
-            Err(Fault::Line(fault, rejected))
-        }
-        Err(RunFault::NoMemory) => Err(Fault::NoMemory),
+        Err(RunFault::Tasks) => Err(RunCause::Tasks(order.tasks)),
+        Err(RunFault::Write) => Err(RunCause::Write),
+        Err(RunFault::NoMemory) => Err(RunCause::NoMemory),
+    }
+}
+
+// How a run ends that stopped reading so.
+fn close(stop: Stop, rejected: u64) -> Result<u64, RunCause>
+    ensures { result ≡ closing stop rejected }
+{
+    match stop {
+        Stop::End => Ok(rejected),
+        Stop::Read => Err(RunCause::Read(rejected)),
+        Stop::Line(fault) => Err(RunCause::Line(fault, rejected)),
     }
 }

@@ -1,32 +1,27 @@
 // What no clause says: that the calls succeed while memory is there, and that the definitions mean these bytes.
-use crate::ffrun;
+use crate::{Devices, ffrun};
+use cases::{Case, cases_of};
 use ff_io::{MemFiles, MemSink, MemSource, ShortSink};
 use std::alloc::Global;
 use std::process::Abort;
 use std::test::Fail;
 
+mod cases;
+mod commands;
 mod counting;
-mod descriptions;
-mod feedback;
+mod devices;
 mod flowing;
 mod limits;
 mod networks;
 mod operations;
-mod outside;
 mod rec_calls;
 mod rejects;
-mod rules;
 mod texts;
-mod words;
 
-const USAGE: &[u8] = b"ffrun: usage: run, check, plan, mdf, dc or soak\n";
-
-const NOT_BUILT: &[u8] = b"ffrun: not built\n";
-
-// The devices of a call: what the file `net.txt` holds, the call of the files that fails, the most that a read gives, the
-// read that fails (calls are counted from 1), what the sinks take in all, and at once.
+// How the devices of a call behave: what the file `net.txt` holds, the call of the files that fails, the most that a read
+// gives, the read that fails (calls are counted from 1), what the sinks take in all, and the output at once.
 #[derive(Clone, Copy)]
-struct Devices<'a> {
+struct Setting<'a> {
     file: &'a [u8],
     load: u64,
     most: usize,
@@ -37,7 +32,7 @@ struct Devices<'a> {
 }
 
 // Devices that do all that is asked of them.
-const SOUND: Devices = Devices {
+const SOUND: Setting = Setting {
     file: b"",
     load: 0,
     most: 65_536,
@@ -55,75 +50,138 @@ struct Want<'a> {
     err: &'a [u8],
 }
 
-// What a call answered, what its sinks took, and its files afterwards.
+// What a call answered, and its devices behind it.
 #[derive(Drop)]
 struct Answer {
     status: u8,
+    files: MemFiles,
+    input: MemSource,
     out: MemSink,
     err: MemSink,
-    files: MemFiles,
 }
 
-// Makes the call.
+impl Answer {
+    // What the output took.
+    fn out(&self) -> &[u8] {
+        self.out.taken()
+    }
+
+    // What was said.
+    fn err(&self) -> &[u8] {
+        self.err.taken()
+    }
+}
+
+// Makes the call. The second write to the sink of messages fails, so that only a message of one write is whole.
 fn call(
     rt: &impl Abort,
     alloc: Global,
-    words: &[&str],
+    words: &[String],
     input: &[u8],
-    by: Devices,
+    by: Setting,
 ) -> Result<Answer, Fail> {
     assert!(rt; 1 <= by.most && 1 <= by.short);
-    let mut files = make_files(alloc, by)?;
     let bytes = Vec::from_slice(alloc, input)?;
-    let mut source = MemSource::new(bytes, by.most, vec![in alloc; by.fails]?);
-    let mut out = ShortSink::new(MemSink::new(alloc, by.out, Vec::new(alloc))?, by.short);
-    let mut err = MemSink::new(alloc, by.err, Vec::new(alloc))?;
-    let words = make_words(alloc, words)?;
-    let status = ffrun(alloc, &words, &mut files, &mut source, &mut out, &mut err);
+    let mut devices = Devices {
+        files: make_files(alloc, by)?,
+        input: MemSource::new(bytes, by.most, vec![in alloc; by.fails]?),
+        out: ShortSink::new(MemSink::new(alloc, by.out, Vec::new(alloc))?, by.short),
+        err: MemSink::new(alloc, by.err, vec![in alloc; 2]?)?,
+    };
+    let status = ffrun(alloc, words, &mut devices);
+    let Devices {
+        files,
+        input,
+        out,
+        err,
+    } = devices;
     Ok(Answer {
         status,
+        files,
+        input,
         out: out.into_inner(),
         err,
-        files,
     })
 }
 
-// Compares what a call answered and what its sinks took.
-fn compare(rt: &impl Abort, words: &[&str], answer: &Answer, want: Want) {
-    assert_eq!(rt; answer.status, want.status, "{words:?}");
-    assert_eq!(rt; answer.out.taken(), want.out, "out, {words:?}");
-    assert_eq!(rt; answer.err.taken(), want.err, "err, {words:?}");
+// The files of a call.
+fn make_files(alloc: Global, by: Setting) -> Result<MemFiles, Fail> {
+    let mut list = Vec::new(alloc);
+    list.push((
+        String::from_str(alloc, "net.txt")?,
+        Vec::from_slice(alloc, by.file)?,
+    ))?;
+    Ok(MemFiles::new(list, vec![in alloc; by.load]?))
 }
 
-// Makes the call and compares.
+// Makes the call with these words, and compares.
 fn check(
     rt: &impl Abort,
     alloc: Global,
     words: &[&str],
     input: &[u8],
-    by: Devices,
+    by: Setting,
     want: Want,
-) -> Result<(), Fail> {
-    let answer = call(rt, alloc, words, input, by)?;
-    compare(rt, words, &answer, want);
+) -> Result<Answer, Fail> {
+    let mut list = Vec::new(alloc);
+    for word in words {
+        list.push(String::from_str(alloc, word)?)?;
+    }
+    let answer = call(rt, alloc, &list, input, by)?;
+    assert_eq!(rt; answer.status, want.status, "{words:?}");
+    assert_eq!(rt; answer.out(), want.out, "out, {words:?}");
+    assert_eq!(rt; answer.err(), want.err, "err, {words:?}");
+    Ok(answer)
+}
+
+// Makes the calls of a table, and compares.
+fn check_table(rt: &impl Abort, alloc: Global, table: &str, by: Setting) -> Result<(), Fail> {
+    for case in cases_of(rt, alloc, table)? {
+        check_case(rt, alloc, &case, by)?;
+    }
     Ok(())
 }
 
-// The same, where the lines of the output may come in any order.
-fn check_lines(
-    rt: &impl Abort,
-    alloc: Global,
-    words: &[&str],
-    input: &[u8],
-    by: Devices,
-    want: Want,
-) -> Result<(), Fail> {
-    let answer = call(rt, alloc, words, input, by)?;
-    assert_eq!(rt; answer.status, want.status, "{words:?}");
-    let lines = sorted_lines(alloc, answer.out.taken())?;
-    assert_eq!(rt; lines, sorted_lines(alloc, want.out)?, "out, {words:?}");
-    assert_eq!(rt; answer.err.taken(), want.err, "err, {words:?}");
+// Makes the call of a case, and compares.
+fn check_case(rt: &impl Abort, alloc: Global, case: &Case, by: Setting) -> Result<(), Fail> {
+    let answer = call(rt, alloc, &case.words, &case.input, by)?;
+    assert_eq!(rt; answer.out(), case.out.as_slice(), "out, {:?}", case.words);
+    expect_told(rt, case, &answer);
     Ok(())
+}
+
+// Makes the calls of a table, each with `--one` too, and compares. The lines of the output may come in any order where that is
+// said.
+fn check_networks(rt: &impl Abort, alloc: Global, table: &str, any: bool) -> Result<(), Fail> {
+    for mut case in cases_of(rt, alloc, table)? {
+        check_network(rt, alloc, &case, any)?;
+        case.words.insert(1, String::from_str(alloc, "--one")?)?;
+        check_network(rt, alloc, &case, any)?;
+    }
+    Ok(())
+}
+
+// Makes the call of a case, and compares.
+fn check_network(rt: &impl Abort, alloc: Global, case: &Case, any: bool) -> Result<(), Fail> {
+    if !any {
+        return check_case(rt, alloc, case, SOUND);
+    }
+    let answer = call(rt, alloc, &case.words, &case.input, SOUND)?;
+    let lines = sorted_lines(alloc, answer.out())?;
+    assert_eq!(rt;
+        lines,
+        sorted_lines(alloc, &case.out)?,
+        "out, {:?}",
+        case.words
+    );
+    expect_told(rt, case, &answer);
+    Ok(())
+}
+
+// A call has this status and says this.
+fn expect_told(rt: &impl Abort, case: &Case, answer: &Answer) {
+    assert_eq!(rt; answer.status, case.status, "{:?}", case.words);
+    assert_eq!(rt; answer.err(), case.err.as_slice(), "err, {:?}", case.words);
 }
 
 // The lines of a text in byte order. Behind its last newline stands one more, which is empty.
@@ -143,106 +201,15 @@ fn sorted_lines(alloc: Global, text: &[u8]) -> Result<Vec<Vec<u8>>, Fail> {
     Ok(lines)
 }
 
-fn make_files(alloc: Global, by: Devices) -> Result<MemFiles, Fail> {
-    let mut list = Vec::new(alloc);
-    list.push((
-        String::from_str(alloc, "net.txt")?,
-        Vec::from_slice(alloc, by.file)?,
-    ))?;
-    Ok(MemFiles::new(list, vec![in alloc; by.load]?))
-}
-
-fn make_words(alloc: Global, texts: &[&str]) -> Result<Vec<String>, Fail> {
-    let mut words = Vec::new(alloc);
-    for text in texts {
-        words.push(String::from_str(alloc, text)?)?;
-    }
-    Ok(words)
-}
-
-// The call `run TEXT` is done, with this output and this line on standard error.
-fn check_run(
-    rt: &impl Abort,
-    alloc: Global,
-    text: &str,
-    input: &[u8],
-    out: &[u8],
-    err: &[u8],
-) -> Result<(), Fail> {
-    let want = Want {
-        status: 0,
-        out,
-        err,
-    };
-    check(rt, alloc, &["run", text], input, SOUND, want)
+#[test]
+fn commands_by_tables(rt: HostRuntime) -> Result<(), Fail> {
+    check_table(&rt, rt.alloc(), commands::COMMANDS, SOUND)?;
+    check_table(&rt, rt.alloc(), operations::OPERATIONS, SOUND)
 }
 
 #[test]
-fn add_on_two_lines(rt: HostRuntime) -> Result<(), Fail> {
-    check_run(&rt, rt.alloc(), "add 1 5", b"1\n2\n", b"6\n7\n", b"")
-}
-
-#[test]
-fn empty_input(rt: HostRuntime) -> Result<(), Fail> {
-    for (text, out) in [
-        ("id", b"".as_slice()),
-        ("tally", b"0\n"),
-        ("min 1", b""),
-        ("tallyby 1", b""),
-        ("total 1", b"0\n"),
-        ("pipe(id, tally, add 1 1)", b"1\n"),
-    ] {
-        check_run(&rt, rt.alloc(), text, b"", out, b"")?;
-    }
-    Ok(())
-}
-
-#[test]
-fn rejected_lines(rt: HostRuntime) -> Result<(), Fail> {
-    for (input, out, err) in [
-        (
-            b"9223372036854775807\nx\n3".as_slice(),
-            b"4\n".as_slice(),
-            b"ffrun: 2 rejected\n".as_slice(),
-        ),
-        (b"\n\n1\n\n", b"2\n", b"ffrun: 3 rejected\n"),
-        (b"\n", b"", b"ffrun: 1 rejected\n"),
-        (b" 1\n1 \n1\r\n--1\n+\n", b"", b"ffrun: 5 rejected\n"),
-    ] {
-        check_run(&rt, rt.alloc(), "add 1 1", input, out, err)?;
-    }
-    Ok(())
-}
-
-#[test]
-fn pipes(rt: HostRuntime) -> Result<(), Fail> {
-    for (text, input, out, err) in [
-        // The first part sends 2, 3 and 5 and rejects `z`, which stands behind the two records that `take` needs.
-        (
-            "pipe(add 1 1, take 2, total 1)",
-            b"1\n2\nz\n4\n".as_slice(),
-            b"5\n".as_slice(),
-            b"ffrun: 1 rejected\n".as_slice(),
-        ),
-        // The last record of a part goes through the parts behind it.
-        ("pipe(total 1, add 1 1)", b"1\n2\n", b"4\n", b""),
-        // A part that has ended drops what comes, and nothing of it is rejected.
-        ("pipe(take 1, add 1 1)", b"1\nx\n", b"2\n", b""),
-        (
-            "pipe(words 1, if 1 > 1, number)",
-            b"1 2\n3\n",
-            b"1\t2\n2\t3\n",
-            b"",
-        ),
-        ("pipe(skip 1, uniq 1)", b"b\na\na\n", b"a\n", b""),
-        (
-            "pipe(halve 1, add 1 9223372036854775807)",
-            b"x\n5\n",
-            b"",
-            b"ffrun: 3 rejected\n",
-        ),
-    ] {
-        check_run(&rt, rt.alloc(), text, input, out, err)?;
-    }
-    Ok(())
+fn networks_by_tables(rt: HostRuntime) -> Result<(), Fail> {
+    check_networks(&rt, rt.alloc(), networks::ORDERED, false)?;
+    check_networks(&rt, rt.alloc(), networks::ANY_ORDER, true)?;
+    check_networks(&rt, rt.alloc(), networks::BEYOND, false)
 }

@@ -1,14 +1,15 @@
 // The call that `main` makes.
 ghost use Rattle.std.specs.Prelude.{◌≡◌, ◌⊎◌, ℕ, [], ◌∷◌, None, Ok, Err, Contains};
 ghost use Rattle.ff_top.specs.Endings.{Did, Ended, IsComplete};
-ghost use Rattle.ff_top.specs.Messages.{said, Tells};
-ghost use Rattle.ff_top.specs.Outside.{outside, scene};
+ghost use Rattle.ff_top.specs.Messages.{memory_message, Tells};
 ghost use Rattle.ff_words.specs.Parsed.{texts};
 ghost use Rattle.ff_words.specs.Words.{command};
 
+use crate::devices::{Devices, Seen};
 use crate::execute::execute;
 use crate::fault::Fault;
-use crate::tell::tell;
+use crate::pieces::write_memory;
+use crate::tell::{room_for, tell};
 use ff_io::{Files, Sink, Source};
 use ff_rec::reading_is_cutting;
 use ff_text::networks_spelled_alike_are_the_same;
@@ -19,25 +20,20 @@ use std::alloc::Global;
 pub fn ffrun<F: Files, I: Source, O: Sink, E: Sink>(
     alloc: Global,
     words: &[String],
-    files: &mut F,
-    input: &mut I,
-    out: &mut O,
-    err: &mut E,
+    devices: &mut Devices<F, I, O, E>,
 ) -> u8
     ensures status { Contains (0 ∷ 1 ∷ 2 ∷ 3 ∷ 4 ∷ 6 ∷ []) result }
 
     // Each answer with its status, when it comes, what was read, written and stored then, which count of faults rose, and
     // what is told of it.
-    ensures ends { Ended result (texts words.now)
-        (scene (outside (F.told files.old) (F.faults files.old) (I.left input.old) (I.faults input.old) (O.taken out.old) (O.faults out.old))
-        (outside (F.told files.new) (F.faults files.new) (I.left input.new) (I.faults input.new) (O.taken out.new) (O.faults out.new)) (I.ended input.new))
-        (λ bytes. Tells (E.taken err.old) (E.taken err.new) (E.faults err.old) (E.faults err.new) bytes) }
+    ensures ends { let seen = ⟦<Devices<F, I, O, E> as Seen>⟧.world in
+        Ended result (texts words.now) (seen devices.old) (seen devices.new) }
 
     // 0: the text that is given spells a network that keeps all rules, and the command was done with it: for `run` over all
     // records of the input, of which the output took the text of an answer, and nothing besides.
-    ensures done { result ≡ 0 → (rejected : ℕ) × Did (texts words.now)
-        (scene (outside (F.told files.old) (F.faults files.old) (I.left input.old) (I.faults input.old) (O.taken out.old) (O.faults out.old))
-        (outside (F.told files.new) (F.faults files.new) (I.left input.new) (I.faults input.new) (O.taken out.new) (O.faults out.new)) (I.ended input.new)) (Ok rejected) }
+    ensures done { let seen = ⟦<Devices<F, I, O, E> as Seen>⟧.outside in
+        result ≡ 0 → (rejected : ℕ)
+        × Did (texts words.now) (seen devices.old) (seen devices.new) (Ok rejected) }
 
     // 1 exactly where the words aren't a command, unless memory ran out.
     ensures usage { result ≡ 1 → command (texts words.now) ≡ None }
@@ -45,14 +41,14 @@ pub fn ffrun<F: Files, I: Source, O: Sink, E: Sink>(
 
     // Where no count of faults rose, and unless memory ran out: an accepted command over an input within the limits is
     // done, over another input a limit is told, and a text that isn't accepted is refused.
-    ensures complete { IsComplete result (texts words.now)
-        (scene (outside (F.told files.old) (F.faults files.old) (I.left input.old) (I.faults input.old) (O.taken out.old) (O.faults out.old))
-        (outside (F.told files.new) (F.faults files.new) (I.left input.new) (I.faults input.new) (O.taken out.new) (O.faults out.new)) (I.ended input.new)) }
+    ensures complete { let seen = ⟦<Devices<F, I, O, E> as Seen>⟧.outside in
+        IsComplete result (texts words.now) (seen devices.old) (seen devices.new) }
 {
     reading_is_cutting();
     networks_spelled_alike_are_the_same();
-    let ending = execute(alloc, words, files, input, out);
-    tell(&ending, err);
+    let room = room_for(alloc, words);
+    let ending = execute(alloc, words, devices);
+    tell(&ending, room, &mut devices.err);
     match ending {
         Ok(_) => 0,
         Err(fault) => fault.status(),
@@ -62,8 +58,9 @@ pub fn ffrun<F: Files, I: Source, O: Sink, E: Sink>(
 /// Tells that memory ran out before there were words, and answers the status that the process ends with.
 pub fn refuse_memory<E: Sink>(err: &mut E) -> u8
     ensures status { result ≡ 6 }
-    ensures says { Tells (E.taken err.old) (E.taken err.new) (E.faults err.old) (E.faults err.new) (said (Err Fault.NoMemory)) }
+    ensures says { Tells (E.taken err.old) (E.taken err.new) (E.faults err.old) (E.faults err.new)
+        memory_message }
 {
-    tell(&Err(Fault::NoMemory), err);
+    let _ = write_memory(err);
     6
 }

@@ -2,7 +2,7 @@
 #![tactic(auto)]
 
 use ff_io::{HostFiles, StderrSink, StdinSource, StdoutSink};
-use ff_top::{ffrun, refuse_memory};
+use ff_top::{Devices, ffrun, refuse_memory};
 use std::alloc::Global;
 use std::io::ErrorKind;
 use std::process::ExitCode;
@@ -20,10 +20,13 @@ fn main(rt: HostRuntime) -> ExitCode {
         // An argument that isn't UTF-8 is part of no command, as no words are.
         Err(_) => Vec::new(alloc),
     };
-    let mut files = HostFiles::new(alloc, &rt);
-    let mut input = StdinSource::new(rt.stdin());
-    let mut out = StdoutSink::new(rt.stdout());
-    let status = ffrun(alloc, &words, &mut files, &mut input, &mut out, &mut err);
+    let mut devices = Devices {
+        files: HostFiles::new(alloc, &rt, rt.stderr()),
+        input: StdinSource::new(rt.stdin()),
+        out: StdoutSink::new(rt.stdout()),
+        err,
+    };
+    let status = ffrun(alloc, &words, &mut devices);
     ExitCode::from(status)
 }
 

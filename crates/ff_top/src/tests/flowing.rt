@@ -1,45 +1,55 @@
-// Which networks hand their records on before the input ends, and one that is too long for that.
-use super::{Devices, SOUND, Want, check, make_files, make_words};
-use crate::ffrun;
-use ff_io::{MemSink, MemSource, Source};
-use std::alloc::Global;
+// Which networks hand their records on before the input ends.
+use super::{SOUND, Setting, Want, call, check};
+use crate::tests::cases::cases_of;
+use ff_io::Source;
 use std::test::Fail;
+
+// Calls whose output takes nothing, on an input of which a read gives at most two bytes.
+const FLOWING: &str = r#"
+run 'farm 2 rr (add 1 1)' | 1\n2\n3\n | 4 |  | ffrun: write fault\n
+run 'comb(add 1 1, id)' | 1\n2\n3\n | 4 |  | ffrun: write fault\n
+run --one 'farm 2 rr (add 1 1)' | 1\n2\n3\n | 4 |  | ffrun: write fault\n
+"#;
+
+const WAITING: &str = r#"
+run 'wrap 2 (add 1 1) if 1 < 2' | 1\n2\n3\n | 4 |  | ffrun: write fault\n
+run --one 'wrap 2 (add 1 1) if 1 < 2' | 1\n2\n3\n | 4 |  | ffrun: write fault\n
+"#;
 
 #[test]
 fn results_show_before_the_end(rt: HostRuntime) -> Result<(), Fail> {
-    for (words, given) in [
-        (["run", "farm 2 rr (add 1 1)"].as_slice(), 2),
-        (["run", "comb(add 1 1, id)"].as_slice(), 2),
-        (["run", "--one", "farm 2 rr (add 1 1)"].as_slice(), 0),
-        (["run", "wrap 2 (add 1 1) if 1 < 2"].as_slice(), 0),
-    ] {
-        assert_eq!(rt; next_read(rt.alloc(), words)?, given, "{words:?}");
+    let by = Setting {
+        most: 2,
+        out: 0,
+        ..SOUND
+    };
+    for (table, left) in [(FLOWING, 2), (WAITING, 0)] {
+        for case in cases_of(&rt, rt.alloc(), table)? {
+            let mut answer = call(&rt, rt.alloc(), &case.words, &case.input, by)?;
+            assert_eq!(&rt; answer.status, case.status, "{:?}", case.words);
+            // How many bytes the input still gives.
+            let mut room = [0; 2];
+            let given = answer.input.read(&mut room)?;
+            assert_eq!(&rt; given, left, "{:?}", case.words);
+        }
     }
     Ok(())
 }
 
-// How many bytes the input still gives, of which a read gives at most two, behind a call whose output takes nothing.
-fn next_read(alloc: Global, words: &[&str]) -> Result<usize, Fail> {
-    let mut files = make_files(alloc, SOUND)?;
-    let bytes = Vec::from_slice(alloc, b"1\n2\n3\n")?;
-    let mut source = MemSource::new(bytes, 2, Vec::new(alloc));
-    let mut out = MemSink::new(alloc, 0, Vec::new(alloc))?;
-    let mut err = MemSink::new(alloc, 100, Vec::new(alloc))?;
-    let words = make_words(alloc, words)?;
-    let _ = ffrun(alloc, &words, &mut files, &mut source, &mut out, &mut err);
-    let mut room = [0; 2];
-    Ok(source.read(&mut room)?)
-}
-
+// A pipeline of more nodes than a comb may have.
 #[test]
-fn a_line_of_65_nodes(rt: HostRuntime) -> Result<(), Fail> {
+fn a_pipeline_of_65_nodes(rt: HostRuntime) -> Result<(), Fail> {
     let alloc = rt.alloc();
     let mut text = String::from_str(alloc, "pipe(pipe(add 1 1")?;
-    add_often(&mut text, 32)?;
-    text.push_str("), pipe(add 1 1")?;
-    add_often(&mut text, 31)?;
-    text.push_str("))")?;
-    let broken = Devices {
+    for k in 0..63 {
+        text.push_str(if k == 32 {
+            "), pipe(add 1 1"
+        } else {
+            ", add 1 1"
+        })?;
+    }
+    text.push_str(", add 1 1))")?;
+    let broken = Setting {
         most: 2,
         fails: 3,
         ..SOUND
@@ -54,14 +64,6 @@ fn a_line_of_65_nodes(rt: HostRuntime) -> Result<(), Fail> {
             err,
         };
         check(&rt, alloc, &["run", text.as_str()], b"1\nx\n", by, want)?;
-    }
-    Ok(())
-}
-
-// More parts of a pipe.
-fn add_often(text: &mut String, times: usize) -> Result<(), Fail> {
-    for _ in 0..times {
-        text.push_str(", add 1 1")?;
     }
     Ok(())
 }

@@ -1,5 +1,5 @@
 // Lines at their limits.
-use super::{SOUND, Want, check, check_run};
+use super::{SOUND, Want, check};
 use std::alloc::{AllocError, Global};
 use std::test::Fail;
 
@@ -20,38 +20,35 @@ fn repeated(
 }
 
 #[test]
-fn a_line_of_65536_bytes(rt: HostRuntime) -> Result<(), Fail> {
+fn long_lines(rt: HostRuntime) -> Result<(), Fail> {
     let alloc = rt.alloc();
-    for end in [b"\n".as_slice(), b""] {
-        let input = repeated(alloc, b"", b"a", 65_536, end)?;
-        check_run(&rt, alloc, "len 1", &input, b"65536\n", b"")?;
-    }
-    Ok(())
-}
-
-#[test]
-fn a_longer_line(rt: HostRuntime) -> Result<(), Fail> {
-    let alloc = rt.alloc();
-    for (front, end, out, err) in [
+    for (front, times, end, status, out, err) in [
+        // A line may have 65,536 bytes.
+        ("", 65_536, "\n", 0, "65536\n", ""),
+        ("", 65_536, "", 0, "65536\n", ""),
         (
-            b"x\n".as_slice(),
-            b"\nyy\n".as_slice(),
-            b"1\n".as_slice(),
-            b"ffrun: line 2: too long\n".as_slice(),
+            "x\n",
+            65_537,
+            "\nyy\n",
+            3,
+            "1\n",
+            "ffrun: line 2: too long\n",
         ),
-        (b"", b"", b"", b"ffrun: line 1: too long\n"),
+        ("", 65_537, "", 3, "", "ffrun: line 1: too long\n"),
         (
-            b"a\n\nbb\n",
-            b"\n",
-            b"1\n0\n2\n",
-            b"ffrun: line 4: too long\n",
+            "a\n\nbb\n",
+            65_537,
+            "\n",
+            3,
+            "1\n0\n2\n",
+            "ffrun: line 4: too long\n",
         ),
     ] {
-        let input = repeated(alloc, front, b"a", 65_537, end)?;
+        let input = repeated(alloc, front.as_bytes(), b"a", times, end.as_bytes())?;
         let want = Want {
-            status: 3,
-            out,
-            err,
+            status,
+            out: out.as_bytes(),
+            err: err.as_bytes(),
         };
         check(&rt, alloc, &["run", "len 1"], &input, SOUND, want)?;
     }
@@ -59,15 +56,63 @@ fn a_longer_line(rt: HostRuntime) -> Result<(), Fail> {
 }
 
 #[test]
-fn rejects_before_a_limit_are_told(rt: HostRuntime) -> Result<(), Fail> {
+fn lines_of_65_fields(rt: HostRuntime) -> Result<(), Fail> {
     let alloc = rt.alloc();
-    let input = repeated(alloc, b"1\nx\n", b"\t", 64, b"\n2\n")?;
-    let want = Want {
-        status: 3,
-        out: b"2\n",
-        err: b"ffrun: line 3: too many fields\nffrun: 1 rejected\n",
-    };
-    check(&rt, alloc, &["run", "add 1 1"], &input, SOUND, want)
+    for (tasks, text, front, end, out, err) in [
+        (
+            "5",
+            "id",
+            "",
+            "\n1\n",
+            "",
+            "ffrun: line 1: too many fields\n",
+        ),
+        // What was rejected before the limit is told.
+        (
+            "5",
+            "add 1 1",
+            "1\nx\n",
+            "\n2\n",
+            "2\n",
+            "ffrun: line 3: too many fields\nffrun: 1 rejected\n",
+        ),
+        // What an operation that has ended doesn't take has limits all the same.
+        (
+            "5",
+            "take 1",
+            "1\n",
+            "\n",
+            "1\n",
+            "ffrun: line 2: too many fields\n",
+        ),
+        (
+            "5",
+            "wrap 2 (halve 1) if 1 > 1",
+            "x\n2\n",
+            "\n",
+            "1\n1\n",
+            "ffrun: line 3: too many fields\nffrun: 1 rejected\n",
+        ),
+        // Tasks are told before limits.
+        (
+            "5",
+            "wrap 2 (halve 1) if 1 > 1",
+            "5\n5\n",
+            "\n",
+            "",
+            "ffrun: more than 5 tasks\n",
+        ),
+    ] {
+        let input = repeated(alloc, front.as_bytes(), b"\t", 64, end.as_bytes())?;
+        let want = Want {
+            status: 3,
+            out: out.as_bytes(),
+            err: err.as_bytes(),
+        };
+        let words = ["run", "--tasks", tasks, text];
+        check(&rt, alloc, &words, &input, SOUND, want)?;
+    }
+    Ok(())
 }
 
 #[test]
@@ -79,27 +124,24 @@ fn a_line_of_64_fields(rt: HostRuntime) -> Result<(), Fail> {
         ("add 1 1", b"8\t", 62, b"7\n"),
     ] {
         let out = repeated(alloc, front, b"7\t", times, back)?;
-        check_run(&rt, alloc, text, &input, &out, b"")?;
+        let want = Want {
+            status: 0,
+            out: &out,
+            err: b"",
+        };
+        check(&rt, alloc, &["run", text], &input, SOUND, want)?;
     }
     Ok(())
 }
 
 #[test]
-fn a_line_of_65_fields(rt: HostRuntime) -> Result<(), Fail> {
-    let alloc = rt.alloc();
+fn a_record_64_times(rt: HostRuntime) -> Result<(), Fail> {
+    let out = repeated(rt.alloc(), b"", b"x\n", 64, b"")?;
     let want = Want {
-        status: 3,
-        out: b"",
-        err: b"ffrun: line 1: too many fields\n",
+        status: 0,
+        out: &out,
+        err: b"",
     };
-    let input = repeated(alloc, b"", b"\t", 64, b"\n1\n")?;
-    check(&rt, alloc, &["run", "id"], &input, SOUND, want)?;
-    // What an operation that has ended doesn't take has limits all the same.
-    let input = repeated(alloc, b"1\n", b"\t", 64, b"\n")?;
-    let want = Want {
-        status: 3,
-        out: b"1\n",
-        err: b"ffrun: line 2: too many fields\n",
-    };
-    check(&rt, alloc, &["run", "take 1"], &input, SOUND, want)
+    check(&rt, rt.alloc(), &["run", "dup 64"], b"x\n", SOUND, want)?;
+    Ok(())
 }

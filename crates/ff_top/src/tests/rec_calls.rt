@@ -11,7 +11,7 @@ fn record(alloc: Global, line: &[u8]) -> Result<Record, Fail> {
 }
 
 // Whether a record is there, and is that of this line.
-fn is_pipeline(r: Option<&Record>, line: &[u8]) -> bool {
+fn is_line(r: Option<&Record>, line: &[u8]) -> bool {
     match r {
         Some(r) => r.joined() == line,
         None => false,
@@ -97,13 +97,13 @@ fn a_record_is_full_at_64_fields(rt: HostRuntime) -> Result<(), Fail> {
 #[test]
 fn sends(rt: HostRuntime) -> Result<(), Fail> {
     let alloc = rt.alloc();
-    let mut counts = Sends::counting(alloc);
+    let mut counts = Sends::new(alloc, false);
     counts.reject(record(alloc, b"r")?)?;
     assert!(&rt; !counts.keeps());
     assert_eq!(&rt; counts.rejects(), 1);
     assert!(&rt; counts.take_reject().is_none());
 
-    let mut out = Sends::keeping(alloc);
+    let mut out = Sends::new(alloc, true);
     out.send(record(alloc, b"a\tb")?)?;
     out.send(record(alloc, b"c")?)?;
     out.reject(record(alloc, b"r\ts")?)?;
@@ -111,16 +111,16 @@ fn sends(rt: HostRuntime) -> Result<(), Fail> {
     assert!(&rt; out.keeps());
     assert_eq!(&rt; out.len(), 2);
     let mut copy = out.copy()?;
-    assert!(&rt; is_pipeline(out.take_first().as_ref(), b"a\tb"));
-    assert!(&rt; is_pipeline(out.take_first().as_ref(), b"c"));
+    assert!(&rt; is_line(out.take_first().as_ref(), b"a\tb"));
+    assert!(&rt; is_line(out.take_first().as_ref(), b"c"));
     assert!(&rt; out.take_first().is_none());
-    assert!(&rt; is_pipeline(out.take_reject().as_ref(), b"r\ts"));
-    assert!(&rt; is_pipeline(out.take_reject().as_ref(), b"t"));
+    assert!(&rt; is_line(out.take_reject().as_ref(), b"r\ts"));
+    assert!(&rt; is_line(out.take_reject().as_ref(), b"t"));
     assert!(&rt; out.take_reject().is_none());
     assert_eq!(&rt; out.rejects(), 2);
     assert_eq!(&rt; copy.len(), 2);
-    assert!(&rt; is_pipeline(copy.take_first().as_ref(), b"a\tb"));
-    assert!(&rt; is_pipeline(copy.take_reject().as_ref(), b"r\ts"));
+    assert!(&rt; is_line(copy.take_first().as_ref(), b"a\tb"));
+    assert!(&rt; is_line(copy.take_reject().as_ref(), b"r\ts"));
     Ok(())
 }
 
@@ -132,8 +132,8 @@ fn lists_of_records(rt: HostRuntime) -> Result<(), Fail> {
     list.push(record(alloc, b"a\tb")?)?;
     list.push(record(alloc, b"")?)?;
     assert_eq!(&rt; list.len(), 2);
-    assert!(&rt; is_pipeline(list.get(0), b"a\tb"));
-    assert!(&rt; is_pipeline(list.get(1), b""));
+    assert!(&rt; is_line(list.get(0), b"a\tb"));
+    assert!(&rt; is_line(list.get(1), b""));
     assert!(&rt; list.get(2).is_none());
     Ok(())
 }

@@ -1,238 +1,107 @@
 // Rejected records that are stored in a file.
-use super::{Devices, SOUND, Want, call, compare, sorted_lines};
-use ff_io::MemFiles;
+use super::{Answer, SOUND, Setting, call, expect_told, sorted_lines};
+use crate::tests::cases::{Case, cases_of};
 use std::alloc::Global;
 use std::process::Abort;
 use std::test::Fail;
 
-// The files of a call, of which one is there already.
-const BEFORE: Devices = Devices {
-    file: b"as before\n",
-    ..SOUND
-};
+// Calls that store what they reject, with a sixth column: the lines of the file, which may come in any order.
+const STORED: &str = r#"
+run --rejects bad.txt 'add 1 1' | 9223372036854775807\nx\n3 | 0 | 4\n | ffrun: 2 rejected\n | 9223372036854775807\nx\n
+// Of two stages.
+run --rejects bad.txt 'pipe(halve 1, add 1 9223372036854775807)' | x\n5\n | 0 |  | ffrun: 3 rejected\n | x\n2\n3\n
+// Of a farm and a wrap.
+run --rejects=bad.txt 'pipe(farm 3 rr (add 1 1), wrap 2 (halve 1) if 1 > 1)' | 1\nx\n9223372036854775807\n | 0 | 1\n1\n | ffrun: 2 rejected\n | x\n9223372036854775807\n
+// Of both sets of an all-to-all and of the part behind it, as they come to each.
+run --rejects bad.txt 'pipe(a2a 2 (mul 2 10) by 1 2 (totalby 1 2), sub 2 9223372036854775807)' | a\t1\nb\na\t-2\nb\tx\n | 0 |  | ffrun: 3 rejected\n | b\nb\tx\na\t-10\n
+// Of a comb, also of what its parts send at the end.
+run --rejects bad.txt 'comb(words 1, total 1, mul 1 9223372036854775807)' | 1 2\tz\nx 3\n | 0 |  | ffrun: 2 rejected\n | x\n6\n
+// The file is stored where nothing is rejected too.
+run --one --rejects bad.txt 'ofarm 2 od (id)' | \n | 0 | \n |  |
+"#;
 
-// The lines that a file holds, which may come in any order.
+// The file of the text becomes the file of the rejects.
+const OVER_THE_TEXT: &str = r#"
+run -f net.txt --rejects net.txt | 9223372036854775807\nx\n3 | 0 | 4\n | ffrun: 2 rejected\n | 9223372036854775807\nx\n
+"#;
+
+// Calls whose second read fails, and whose store does.
+const SECOND_READ_FAILS: &str = r#"
+run --rejects bad.txt 'pipe(id, add 1 1)' | x\n1\ny | 4 | 2\n | ffrun: read fault\nffrun: 1 rejected\n | x\n
+"#;
+
+const STORE_FAILS: &str = r#"
+run --rejects bad.txt 'add 1 1' | 9223372036854775807\nx\n3 | 4 | 4\n | ffrun: cannot write bad.txt\nffrun: 2 rejected\n |
+run --one --rejects bad.txt 'add 1 1' | 9223372036854775807\nx\n3 | 4 | 4\n | ffrun: cannot write bad.txt\nffrun: 2 rejected\n |
+"#;
+
+// The store is told before the fault of the input.
+const BOTH_FAIL: &str = r#"
+run --rejects bad.txt 'add 1 1' | 9223372036854775807\nx\n3 | 4 |  | ffrun: cannot write bad.txt\nffrun: 2 rejected\n |
+"#;
+
+// Calls that store nothing, so that the file of the rejects holds what it held. The output takes a byte.
+const NOTHING_STORED: &str = r#"
+run 'add 1 1' --rejects net.txt | x\n1\n | 4 | 2 | ffrun: write fault\n | as before\n
+run --tasks 1 --rejects net.txt 'wrap 1 (id) if 1 > 5' | x\n1\n | 3 |  | ffrun: more than 1 tasks\n | as before\n
+run --rejects net.txt 'farm 0 rr (id)' | x\n1\n | 2 |  | ffrun: rule N3 at top\n | as before\n
+run --rejects net.txt -f other.txt | x\n1\n | 4 |  | ffrun: cannot read other.txt\n | as before\n
+run --rejects other.txt 'skip 9' | x\n1\n | 0 |  |  | as before\n
+"#;
+
+// Makes the calls of a table of six columns, and compares, the file `name` too. It is an error where it isn't there and lines
+// are to stand in it.
+fn check_files(
+    rt: &impl Abort,
+    alloc: Global,
+    table: &str,
+    name: &str,
+    by: Setting,
+) -> Result<(), Fail> {
+    for case in cases_of(rt, alloc, table)? {
+        let answer = call(rt, alloc, &case.words, &case.input, by)?;
+        assert_eq!(rt; answer.out(), case.out.as_slice(), "out, {:?}", case.words);
+        expect_told(rt, &case, &answer);
+        expect_file(rt, alloc, &case, &answer, name)?;
+    }
+    Ok(())
+}
+
 fn expect_file(
     rt: &impl Abort,
     alloc: Global,
-    files: &MemFiles,
+    case: &Case,
+    answer: &Answer,
     name: &str,
-    lines: &[u8],
 ) -> Result<(), Fail> {
-    let content = files.content(name).ok_or("no such file")?;
+    let held = answer.files.content(name).unwrap_or(b"");
+    let lines = sorted_lines(alloc, held)?;
     assert_eq!(rt;
-        sorted_lines(alloc, content)?,
-        sorted_lines(alloc, lines)?,
-        "{name}"
+        lines,
+        sorted_lines(alloc, &case.stored)?,
+        "{name}, {:?}",
+        case.words
     );
     Ok(())
 }
 
-// A run is done, and its file holds the rejected records: a new file, by `run --one` too, and the file of the text.
-fn expect_stored(
-    rt: &impl Abort,
-    alloc: Global,
-    text: &str,
-    input: &[u8],
-    want: Want,
-    stored: &[u8],
-) -> Result<(), Fail> {
-    let words = ["run", "--rejects", "bad.txt", text];
-    let answer = call(rt, alloc, &words, input, BEFORE)?;
-    compare(rt, &words, &answer, want);
-    expect_file(rt, alloc, &answer.files, "bad.txt", stored)?;
-    expect_file(rt, alloc, &answer.files, "net.txt", b"as before\n")?;
-    let in_one = ["run", "--one", text, "--rejects=bad.txt"];
-    let answer = call(rt, alloc, &in_one, input, BEFORE)?;
-    compare(rt, &in_one, &answer, want);
-    expect_file(rt, alloc, &answer.files, "bad.txt", stored)?;
-    let by = Devices {
-        file: text.as_bytes(),
+#[test]
+fn files_of_rejects(rt: HostRuntime) -> Result<(), Fail> {
+    let alloc = rt.alloc();
+    let file = b"as before\n";
+    let before = Setting { file, ..SOUND };
+    check_files(&rt, alloc, STORED, "bad.txt", before)?;
+    let text = Setting {
+        file: b"add 1 1",
         ..SOUND
     };
-    let over_itself = ["run", "-f", "net.txt", "--rejects", "net.txt"];
-    let answer = call(rt, alloc, &over_itself, input, by)?;
-    compare(rt, &over_itself, &answer, want);
-    expect_file(rt, alloc, &answer.files, "net.txt", stored)
-}
-
-#[test]
-fn rejects_are_stored(rt: HostRuntime) -> Result<(), Fail> {
-    for (text, input, out, err, stored) in [
-        // Two rejects stored.
-        (
-            "add 1 1",
-            b"9223372036854775807\nx\n3".as_slice(),
-            b"4\n".as_slice(),
-            b"ffrun: 2 rejected\n".as_slice(),
-            b"9223372036854775807\nx\n".as_slice(),
-        ),
-        // Rejects of two stages stored.
-        (
-            "pipe(halve 1, add 1 9223372036854775807)",
-            b"x\n5\n",
-            b"",
-            b"ffrun: 3 rejected\n",
-            b"x\n2\n3\n",
-        ),
-        // Rejects of a farm and a wrap.
-        (
-            "pipe(farm 3 rr (add 1 1), wrap 2 (halve 1) if 1 > 1)",
-            b"1\nx\n9223372036854775807\n",
-            b"1\n1\n",
-            b"ffrun: 2 rejected\n",
-            b"x\n9223372036854775807\n",
-        ),
-        // Rejects of both sets of an all-to-all and of the part behind it, as they come to each.
-        (
-            "pipe(a2a 2 (mul 2 10) by 1 2 (totalby 1 2), sub 2 9223372036854775807)",
-            b"a\t1\nb\na\t-2\nb\tx\n",
-            b"",
-            b"ffrun: 3 rejected\n",
-            b"b\nb\tx\na\t-10\n",
-        ),
-        // A comb's rejects, also of what its parts send at the end.
-        (
-            "comb(words 1, total 1, mul 1 9223372036854775807)",
-            b"1 2\tz\nx 3\n",
-            b"",
-            b"ffrun: 2 rejected\n",
-            b"x\n6\n",
-        ),
-        // The file is stored where nothing is rejected too.
-        ("ofarm 2 od (id)", b"\n", b"\n", b"", b""),
-    ] {
-        let want = Want {
-            status: 0,
-            out,
-            err,
-        };
-        expect_stored(&rt, rt.alloc(), text, input, want, stored)?;
-    }
-    Ok(())
-}
-
-#[test]
-fn rejects_before_a_fault_of_the_input(rt: HostRuntime) -> Result<(), Fail> {
-    let words = ["run", "--rejects", "bad.txt", "pipe(id, add 1 1)"];
-    let by = Devices { fails: 2, ..BEFORE };
-    let want = Want {
-        status: 4,
-        out: b"2\n",
-        err: b"ffrun: read fault\nffrun: 1 rejected\n",
-    };
-    let answer = call(&rt, rt.alloc(), &words, b"x\n1\ny", by)?;
-    compare(&rt, &words, &answer, want);
-    expect_file(&rt, rt.alloc(), &answer.files, "bad.txt", b"x\n")?;
-    let mut input = Vec::from_slice(rt.alloc(), b"x\ty\n1\n")?;
-    for _ in 0..64 {
-        input.push(b'\t')?;
-    }
-    let want = Want {
-        status: 3,
-        out: b"2\n",
-        err: b"ffrun: line 3: too many fields\nffrun: 1 rejected\n",
-    };
-    let answer = call(&rt, rt.alloc(), &words, &input, BEFORE)?;
-    compare(&rt, &words, &answer, want);
-    expect_file(&rt, rt.alloc(), &answer.files, "bad.txt", b"x\ty\n")
-}
-
-#[test]
-fn a_store_fails(rt: HostRuntime) -> Result<(), Fail> {
-    for (load, fails, out, err) in [
-        (
-            1,
-            0,
-            b"4\n".as_slice(),
-            b"ffrun: cannot write bad.txt\nffrun: 2 rejected\n".as_slice(),
-        ),
-        // The store is told before the fault of the input.
-        (
-            1,
-            2,
-            b"",
-            b"ffrun: cannot write bad.txt\nffrun: 2 rejected\n",
-        ),
-    ] {
-        for one in [
-            ["run", "--rejects", "bad.txt", "add 1 1"].as_slice(),
-            &["run", "--one", "--rejects", "bad.txt", "add 1 1"],
-        ] {
-            let by = Devices {
-                load,
-                fails,
-                ..BEFORE
-            };
-            let want = Want {
-                status: 4,
-                out,
-                err,
-            };
-            let answer = call(&rt, rt.alloc(), one, b"9223372036854775807\nx\n3", by)?;
-            compare(&rt, one, &answer, want);
-            expect_file(&rt, rt.alloc(), &answer.files, "net.txt", b"as before\n")?;
-        }
-    }
-    Ok(())
-}
-
-// Where nothing may be stored, the file of the rejects holds what it held.
-#[test]
-fn nothing_is_stored(rt: HostRuntime) -> Result<(), Fail> {
-    for (words, out, status, taken, err) in [
-        (
-            ["run", "add 1 1", "--rejects", "net.txt"].as_slice(),
-            1,
-            4,
-            b"2".as_slice(),
-            b"ffrun: write fault\n".as_slice(),
-        ),
-        (
-            &[
-                "run",
-                "--tasks",
-                "1",
-                "--rejects",
-                "net.txt",
-                "wrap 1 (id) if 1 > 5",
-            ],
-            100,
-            3,
-            b"",
-            b"ffrun: more than 1 tasks\n",
-        ),
-        (
-            &["run", "--rejects", "net.txt", "farm 0 rr (id)"],
-            100,
-            2,
-            b"",
-            b"ffrun: rule N3 at top\n",
-        ),
-        (
-            &["run", "--rejects", "net.txt", "-f", "other.txt"],
-            100,
-            4,
-            b"",
-            b"ffrun: cannot read other.txt\n",
-        ),
-        (
-            &["run", "--rejects", "other.txt", "id"],
-            100,
-            0,
-            b"x\n1\n",
-            b"",
-        ),
-    ] {
-        let by = Devices { out, ..BEFORE };
-        let want = Want {
-            status,
-            out: taken,
-            err,
-        };
-        let answer = call(&rt, rt.alloc(), words, b"x\n1\n", by)?;
-        compare(&rt, words, &answer, want);
-        expect_file(&rt, rt.alloc(), &answer.files, "net.txt", b"as before\n")?;
-    }
-    Ok(())
+    check_files(&rt, alloc, OVER_THE_TEXT, "net.txt", text)?;
+    let read = Setting { fails: 2, ..SOUND };
+    check_files(&rt, alloc, SECOND_READ_FAILS, "bad.txt", read)?;
+    let store = Setting { load: 1, ..SOUND };
+    check_files(&rt, alloc, STORE_FAILS, "bad.txt", store)?;
+    let both = Setting { fails: 2, ..store };
+    check_files(&rt, alloc, BOTH_FAIL, "bad.txt", both)?;
+    let full = Setting { out: 1, ..before };
+    check_files(&rt, alloc, NOTHING_STORED, "net.txt", full)
 }

@@ -1,0 +1,56 @@
+-- What each command does with the text that it is given. Commands without a row of their own aren't built, and do nothing.
+use Rattle.std.specs.Prelude.{◌≡◌, ℕ, ◌⊎◌, true, List, Option, None, Some, IsSome, IsSomeAnd, Result, Ok, Err}
+use Rattle.ff_net.specs.Meaning.{Fine}
+use Rattle.ff_net.specs.Tree.{Tree}
+use Rattle.ff_net.specs.Versions.{limit_by, seen_by}
+use Rattle.ff_ops.specs.Operation.{OpState, op_node}
+use Rattle.ff_top.specs.Checking.{Printed}
+use Rattle.ff_top.specs.Outside.{Outside, IsUntouched}
+use Rattle.ff_top.specs.Running.{Ran, run_job}
+use Rattle.ff_top.specs.Texts.{IsGiven, IsGivenFault, version}
+use Rattle.ff_top.specs.declared.fault.Fault.{Fault}
+use Rattle.ff_top.specs.declared.fault.Fault.TheVariants as fault
+use Rattle.ff_words.specs.declared.command.Command.{Command}
+use Rattle.ff_words.specs.declared.command.Command.TheVariants.{Run, Check}
+use Rattle.ff_words.specs.declared.command.Given.{Given}
+
+-- the text or file of a command that is built
+abbrev pub given_to : Command → Option Given
+given_to (Run given cap queue tasks one rejects) = Some given
+given_to (Check given) = Some given
+given_to _ = None
+
+-- `run` answers as the run of the network ends
+abbrev pub RunDone : ℕ → Option (List ℕ)
+    → Tree OpState → Outside → Outside → Result ℕ Fault → Type 0
+RunDone tasks rejects t before now (Ok n) = Ran (run_job t tasks rejects) rejects before now (Ok n)
+RunDone tasks rejects t before now (Err (fault.Run cause)) =
+    Ran (run_job t tasks rejects) rejects before now (Err cause)
+RunDone tasks rejects t before now (Err _) = ⊥
+
+-- `check` answers as the print of the network ends
+abbrev pub CheckDone : Tree OpState → Outside → Outside → Result ℕ Fault → Type 0
+CheckDone t before now (Ok n) = Printed t before now (Ok n)
+CheckDone t before now (Err (fault.Check cause)) = Printed t before now (Err cause)
+CheckDone t before now (Err _) = ⊥
+
+-- what a command does with the network that it is given
+abbrev pub DoneWith : Command → Tree OpState → Outside → Outside → Result ℕ Fault → Type 0
+DoneWith (Run given cap queue tasks one rejects) t before now answer =
+    RunDone tasks rejects t before now answer
+DoneWith (Check given) t before now answer = CheckDone t before now answer
+DoneWith _ t before now answer = ⊥
+
+-- the input of a run is known, passes no limit, and gives no wrap more tasks than it may have; a check reads none
+abbrev pub IsInLimits : Command → Tree OpState → Option (List ℕ) → Type 0
+IsInLimits (Run given cap queue tasks one rejects) t left =
+    IsSomeAnd left (λ bytes.
+    (limit_by version bytes ≡ None) × Fine op_node tasks t (seen_by version bytes true))
+IsInLimits _ t left = Unit {0}
+
+-- the input of a run is known, and passes a limit or gives a wrap more tasks than it may have
+abbrev pub IsBeyond : Command → Tree OpState → Option (List ℕ) → Type 0
+IsBeyond (Run given cap queue tasks one rejects) t left =
+    IsSomeAnd left (λ bytes.
+    IsSome (limit_by version bytes) ⊎ (Fine op_node tasks t (seen_by version bytes true) → ⊥))
+IsBeyond _ t left = ⊥
