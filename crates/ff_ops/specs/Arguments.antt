@@ -1,5 +1,5 @@
 -- The arguments of operations: of which kind they are, within which range, and how they stand in a text.
-use Rattle.std.specs.Prelude.{ℕ, Bool, true, false, not, ◌&&◌, List, [], ◌∷◌, ◌++◌, ℤ, pos, int_le, codes}
+use Rattle.std.specs.Prelude.{ℕ, Bool, true, false, IsTrue, not, ◌&&◌, List, [], ◌∷◌, ◌++◌, ℤ, pos, int_le, codes}
 use Rattle.ff_rec.specs.Number.{printed}
 use Rattle.ff_rec.specs.declared.cmp.Cmp.{Cmp}
 use Rattle.ff_rec.specs.declared.cmp.Cmp.TheVariants.{Lt, Le, Eq, Ne, Ge, Gt}
@@ -55,6 +55,17 @@ abbrev pub is_within : Arg → ArgKind → Bool
 is_within (Num n) kind = number_within n kind
 is_within (Compared cmp) kind = true
 is_within (Text bytes) kind = true
+
+-- whether an argument is of a kind, and within its range
+abbrev pub fits : Arg → ArgKind → Bool
+fits a kind = suits a kind && is_within a kind
+
+-- arguments of these kinds, each within its range
+abbrev pub AllFit : List Arg → List ArgKind → Type 0
+AllFit [] [] = Unit {0}
+AllFit [] (kind ∷ kinds) = ⊥
+AllFit (a ∷ args) [] = ⊥
+AllFit (a ∷ args) (kind ∷ kinds) = IsTrue (fits a kind) × AllFit args kinds
 
 -- the mark of a comparison
 abbrev pub mark_of : Cmp → List ℕ

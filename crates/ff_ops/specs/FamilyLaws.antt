@@ -15,7 +15,7 @@ use Rattle.ff_ops.specs.FoldOpLaws.{fold_keeps_kind, fold_class_law}
 use Rattle.ff_ops.specs.KeyedOps.{keyed_node}
 use Rattle.ff_ops.specs.KeyedOpLaws.{keyed_keeps_kind, keyed_class_law}
 use Rattle.ff_ops.specs.Families.{family_opening, family_next, family_class, family_node}
-use Rattle.ff_ops.specs.Parts.{IsPart, class_law-at}
+use Rattle.ff_ops.specs.PartLaws.{IsPart, class_law-at}
 use Rattle.ff_ops.specs.declared.number_op.NumberOp.{NumberOp}
 use Rattle.ff_ops.specs.declared.field_op.FieldOp.{FieldOp}
 use Rattle.ff_ops.specs.declared.ordered_op.OrderedOp.{OrderedOp}

@@ -1,5 +1,5 @@
 -- The laws of the folds of the table: what is fixed of them, and that two records lead to one state in either order.
-use Rattle.std.specs.Prelude.{◌≡◌, ℕ, ◌+◌, ◌^◌, Bool, true, false, min, List, [], ◌∷◌, Option, None, Some, ℤ, refl}
+use Rattle.std.specs.Prelude.{◌≡◌, ℕ, ◌+◌, ◌^◌, min, List, [], ◌∷◌, Option, None, Some, ℤ, refl}
 use Rattle.std.proofs.Common.{◌∙◌, sym, ap, ap₂, arith}
 use Rattle.std.proofs.lemmas.Int.{ints}
 use Rattle.ff_rec.specs.Lines.{Rec}
@@ -10,11 +10,6 @@ use Rattle.ff_ops.specs.FoldOps.{capped_sum, above, below, lesser, greater, fold
 use Rattle.ff_ops.specs.FoldLaws.{IsFoldNode-steps}
 use Rattle.ff_ops.specs.declared.fold_op.FoldOp.{FoldOp}
 use Rattle.ff_ops.specs.declared.fold_op.FoldOp.TheVariants.{Tally, Total, Min, Max}
-
--- what is kept of a record, or else it is rejected
-abbrev pub KeepsOrRejects : FoldOp → Rec → Bool → Type 0
-KeepsOrRejects o r true = rejects_at (fold_field o) r ≡ []
-KeepsOrRejects o r false = rejects_at (fold_field o) r ≡ r ∷ []
 
 -- a number changes neither the field nor the opening state
 fold_field-if_number : (o : FoldOp) (n : Option ℤ) → fold_field (fold_if_number o n) ≡ fold_field o

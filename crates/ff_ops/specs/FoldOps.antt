@@ -1,5 +1,5 @@
 -- The folds: they send at the end alone, and the order of the records doesn't matter. Each by its row.
-use Rattle.std.specs.Prelude.{ℕ, ◌+◌, ◌-◌, ◌^◌, false, min, if◌then◌else◌, List, [], ◌∷◌, Option, None, Some, ℤ, pos, negsuc, ◌-ℤ◌, int_le}
+use Rattle.std.specs.Prelude.{◌≡◌, ℕ, ◌+◌, ◌-◌, ◌^◌, Bool, true, false, min, if◌then◌else◌, List, [], ◌∷◌, Option, None, Some, ℤ, pos, negsuc, ◌-ℤ◌, int_le}
 use Rattle.ff_rec.specs.Lines.{Rec}
 use Rattle.ff_rec.specs.Number.{printed}
 use Rattle.ff_node.specs.Behaviour.{Behaviour}
@@ -64,13 +64,18 @@ abbrev pub fold_next : FoldOp → Rec → FoldOp
 fold_next o r = fold_at o (fold_field o) r
 
 -- a record without the number that is needed is rejected
+abbrev pub rejects_without : Option ℤ → Rec → List Rec
+rejects_without None r = r ∷ []
+rejects_without (Some x) r = []
+
 abbrev pub rejects_at : Option ℕ → Rec → List Rec
 rejects_at None r = []
 rejects_at (Some f) r = rejects_without (number_in f r) r
-  where
-    rejects_without : Option ℤ → Rec → List Rec
-    rejects_without None r = r ∷ []
-    rejects_without (Some x) r = []
+
+-- a record is taken into the state, or else it is rejected
+abbrev pub KeepsOrRejects : FoldOp → Rec → Bool → Type 0
+KeepsOrRejects o r true = rejects_at (fold_field o) r ≡ []
+KeepsOrRejects o r false = rejects_at (fold_field o) r ≡ r ∷ []
 
 -- one record of one number, or none
 abbrev pub one_number : Option ℤ → List Rec

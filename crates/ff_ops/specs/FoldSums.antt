@@ -19,11 +19,19 @@ sum_above f xs = weigh (λ x. of_number above (number_in f x)) xs
 abbrev pub sum_below : ℕ → List Rec → ℕ
 sum_below f xs = weigh (λ x. of_number below (number_in f x)) xs
 
--- `tally` sends the number of the records, as far as a count of 64 bits tells
-abbrev pub TallyIsLength : Type 0
-TallyIsLength = (n : ℕ) (xs : List Rec) → node fold_node (Tally n) xs ≡ one_number (Some (pos (min (length xs) (2 ^ 64 - 1))))
+-- the number of the records, as far as a count of 64 bits tells
+abbrev pub count_of : List Rec → ℕ
+count_of xs = min (length xs) (2 ^ 64 - 1)
 
--- `total` sends the one sum less the other, each at most 2^126
+-- the one sum less the other, each at most 2^126
+abbrev pub total_in : ℕ → List Rec → ℤ
+total_in f xs = pos (min (sum_above f xs) (2 ^ 126)) -ℤ pos (min (sum_below f xs) (2 ^ 126))
+
+-- `tally` sends the number of the records
+abbrev pub TallyIsLength : Type 0
+TallyIsLength = (n : ℕ) (xs : List Rec) → node fold_node (Tally n) xs ≡ one_number (Some (pos (count_of xs)))
+
+-- `total` sends the difference of the sums
 abbrev pub TotalIsDifference : Type 0
 TotalIsDifference = (f plus minus : ℕ) (xs : List Rec)
-    → node fold_node (Total f plus minus) xs ≡ one_number (Some (pos (min (sum_above f xs) (2 ^ 126)) -ℤ pos (min (sum_below f xs) (2 ^ 126))))
+    → node fold_node (Total f plus minus) xs ≡ one_number (Some (total_in f xs))

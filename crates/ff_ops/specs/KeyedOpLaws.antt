@@ -11,7 +11,7 @@ use Rattle.ff_ops.specs.Entries.{Entry}
 use Rattle.ff_ops.specs.FoldOps.{above, below}
 use Rattle.ff_ops.specs.FoldLaws.{IsFoldNode-steps}
 use Rattle.ff_ops.specs.KeyedTakes.{tally_record, total_record}
-use Rattle.ff_ops.specs.KeyedFolds.{stepped, step, steps, step-swap, steps-parts, Same-parts}
+use Rattle.ff_ops.specs.KeyedFoldLaws.{stepped, step, steps, step-swap, steps-parts, Same-parts}
 use Rattle.ff_ops.specs.KeyedOps.{counted_more, summed, tallied, totalled, entries_or, rejects_where, keyed_next, keyed_rejects, keyed_last, keyed_opening, keyed_class, keyed_node}
 use Rattle.ff_ops.specs.Rows.{number_in}
 use Rattle.ff_ops.specs.declared.keyed_op.KeyedOp.{KeyedOp}
@@ -42,15 +42,15 @@ sent_from-keyed o (x ∷ xs) = sent_from-keyed (keyed_next o x) xs
 capped-swap : (c n a b : ℕ) → min (min (n + a) c + b) c ≡ min (min (n + b) c + a) c
 capped-swap c n a b = omega arith
 
-summed-swap : (x y : ℤ) (sums : ℕ × ℕ) → summed x (summed y sums) ≡ summed y (summed x sums)
+pub summed-swap : (x y : ℤ) (sums : ℕ × ℕ) → summed x (summed y sums) ≡ summed y (summed x sums)
 summed-swap x y sums =
     ap₂ (λ (m n : ℕ). (m, n)) (capped-swap (2 ^ 126) sums.0 (above y) (above x)) (capped-swap (2 ^ 126) sums.1 (below y) (below x))
 
 -- each record counts once
-abbrev counted : ℕ → ℕ → ℕ
+abbrev pub counted : ℕ → ℕ → ℕ
 counted one n = counted_more n
 
-abbrev once : Rec → Option ℕ
+abbrev pub once : Rec → Option ℕ
 once r = Some 1
 
 -- `tallyby` goes step by step
@@ -127,7 +127,7 @@ flat_map-rejects o p (x ∷ xs) same =
     (keyed_rejects-opening p x ∙ ap (λ (q : KeyedOp). keyed_rejects q x) same ∙ sym (keyed_rejects-opening o x))
     (flat_map-rejects o p xs same)
 
-rejected_from-keyed : (o : KeyedOp) (xs : List Rec) → rejected_from keyed_node o xs ≡ flat_map (keyed_rejects o) xs
+pub rejected_from-keyed : (o : KeyedOp) (xs : List Rec) → rejected_from keyed_node o xs ≡ flat_map (keyed_rejects o) xs
 rejected_from-keyed o [] = refl
 rejected_from-keyed o (x ∷ xs) =
     ap (λ (rest : List Rec). keyed_rejects o x ++ rest)
@@ -147,10 +147,10 @@ flat_map-same g h [] same = refl
 flat_map-same {A} g h (k ∷ ks) same = ap₂ (λ (front back : List A). front ++ back) (same k) (flat_map-same g h ks same)
 
 -- what is sent in all
-node-tally : (f : ℕ) (es : List (Entry ℕ)) (xs : List Rec) → node keyed_node (TallyBy f es) xs ≡ map tally_record (steps 0 counted f once (λ x y v. refl) [] xs)
+pub node-tally : (f : ℕ) (es : List (Entry ℕ)) (xs : List Rec) → node keyed_node (TallyBy f es) xs ≡ map tally_record (steps 0 counted f once (λ x y v. refl) [] xs)
 node-tally f es xs = sent_from-keyed (TallyBy f []) xs ∙ ap keyed_last (state_from-tally f [] xs)
 
-node-total : (f g : ℕ) (es : List (Entry (ℕ × ℕ))) (xs : List Rec)
+pub node-total : (f g : ℕ) (es : List (Entry (ℕ × ℕ))) (xs : List Rec)
     → node keyed_node (TotalBy f g es) xs ≡ map total_record (steps (0, 0) summed f (number_in g) summed-swap [] xs)
 node-total f g es xs = sent_from-keyed (TotalBy f g []) xs ∙ ap keyed_last (state_from-total f g [] xs)
 

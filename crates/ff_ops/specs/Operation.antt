@@ -1,5 +1,5 @@
 -- An operation: its row with arguments that fit it, how it stands in a text, and what it does.
-use Rattle.std.specs.Prelude.{ℕ, ◌==◌, not, if◌then◌else◌, List, ◌∷◌, ◌++◌, length, position, zip, Option, None, Some, Result, Ok, Err}
+use Rattle.std.specs.Prelude.{◌≡◌, ℕ, ◌==◌, not, if◌then◌else◌, List, ◌∷◌, ◌++◌, length, position, zip, Option, None, Some, Result, Ok, Err}
 use Rattle.std.specs.List.{flat_map}
 use Rattle.ff_node.specs.Behaviour.{Behaviour}
 use Rattle.ff_ops.specs.Arguments.{suits, is_within, printed_argument}
@@ -18,9 +18,12 @@ pub record OpState : Type 0 where
   pub args : List Arg
   pub family : Family
 
--- the same, before its first record
+abbrev pub op_state : Row → List Arg → Family → OpState
+op_state row args family = record { row = row; args = args; family = family }
+
+-- a row with its arguments, before its first record
 abbrev pub operation : Row → List Arg → OpState
-operation row args = record { row = row; args = args; family = family_of row args }
+operation row args = op_state row args (family_of row args)
 
 -- the place of the first argument that isn't of its kind
 abbrev pub first_unsuited : List Arg → List ArgKind → Option ℕ
@@ -54,6 +57,9 @@ printed_arguments args = flat_map (λ a. 32 ∷ printed_argument a) args
 abbrev pub printed_op : Row → List Arg → List ℕ
 printed_op row args = name_of row ++ printed_arguments args
 
+abbrev pub op_text : OpState → List ℕ
+op_text o = printed_op o.row o.args
+
 -- an operation as a node
 abbrev pub op_node : Behaviour OpState
 op_node = record {
@@ -66,3 +72,7 @@ op_node = record {
   last = λ o. family_node.last o.family;
   last_rejects = λ o. family_node.last_rejects o.family;
 }
+
+-- an operation is read again from its name and its arguments
+abbrev pub IsReadAgain : OpState → Type 0
+IsReadAgain o = read_op (name_of o.row) o.args ≡ Ok (op_node.opening o)

@@ -6,7 +6,7 @@ use Rattle.ff_node.specs.Classes.{ClassLaw}
 use Rattle.ff_ops.specs.Families.{family_node}
 use Rattle.ff_ops.specs.FamilyLaws.{family_keeps_kind, family_class_law}
 use Rattle.ff_ops.specs.Operation.{OpState, op_node}
-use Rattle.ff_ops.specs.Parts.{IsPart, class_law-at}
+use Rattle.ff_ops.specs.PartLaws.{IsPart, class_law-at}
 use Rattle.ff_ops.specs.declared.family.Family.{Family}
 
 -- what an operation does is fixed when it is made

@@ -1,34 +1,19 @@
--- One step of an operation for which the order matters, and what is fixed of such operations.
+-- What is fixed of the operations for which the order matters.
 use Rattle.std.specs.Prelude.{◌≡◌, Bool, true, false, cond, is_some, refl}
 use Rattle.ff_rec.specs.Lines.{Rec}
 use Rattle.ff_node.specs.Behaviour.{KeepsKind}
 use Rattle.ff_node.specs.Classes.{ClassLaw}
-use Rattle.ff_node.specs.Sends.{Sent, add}
-use Rattle.ff_ops.specs.Rows.{sends_of, rejects_of}
 use Rattle.ff_ops.specs.OrderedOps.{ordered_answer, after_sent, ordered_next, ordered_opening, ordered_node}
 use Rattle.ff_ops.specs.declared.ordered_op.OrderedOp.{OrderedOp}
-use Rattle.ff_ops.specs.declared.ordered_op.OrderedOp.TheVariants.{Number, RunSum, Delta, Take, Skip, Uniq}
-
--- the state and what is gathered, before and after a record
-pub record IsStep (o : OrderedOp) (r : Rec) (s : Sent) (o' : OrderedOp) (s' : Sent) : Type 0 where
-  pub state : o' ≡ ordered_next o r
-  pub sends : s' ≡ add s (sends_of (ordered_answer o r)) (rejects_of (ordered_answer o r) r)
+use Rattle.ff_ops.specs.declared.ordered_op.OrderedOp.TheVariants.{Number}
 
 ordered_opening-opening : (o : OrderedOp) → ordered_opening (ordered_opening o) ≡ ordered_opening o
 ordered_opening-opening (Number n) = refl
-ordered_opening-opening (RunSum f s) = refl
-ordered_opening-opening (Delta f s) = refl
-ordered_opening-opening (Take n left) = refl
-ordered_opening-opening (Skip n left) = refl
-ordered_opening-opening (Uniq f before) = refl
+ordered_opening-opening o = refl
 
 ordered_opening-after_sent : (o : OrderedOp) (r : Rec) → ordered_opening (after_sent o r) ≡ ordered_opening o
 ordered_opening-after_sent (Number n) r = refl
-ordered_opening-after_sent (RunSum f s) r = refl
-ordered_opening-after_sent (Delta f s) r = refl
-ordered_opening-after_sent (Take n left) r = refl
-ordered_opening-after_sent (Skip n left) r = refl
-ordered_opening-after_sent (Uniq f before) r = refl
+ordered_opening-after_sent o r = refl
 
 -- a record that is sent or rejected doesn't change the opening state
 ordered_opening-next : (o : OrderedOp) (r : Rec) → ordered_opening (ordered_next o r) ≡ ordered_opening o

@@ -1,10 +1,11 @@
 -- The operations for which the order of the records matters, each by its row.
-use Rattle.std.specs.Prelude.{ℕ, ◌+◌, ◌-◌, ◌^◌, nat_lt, nat_le, Bool, true, false, not, min, if◌then◌else◌, List, [], ◌∷◌, length, Option, None, Some, option_and_then, is_some, ℤ, pos, ◌+ℤ◌, ◌-ℤ◌}
+use Rattle.std.specs.Prelude.{◌≡◌, ℕ, ◌+◌, ◌-◌, ◌^◌, nat_lt, nat_le, Bool, true, false, not, min, if◌then◌else◌, List, [], ◌∷◌, length, Option, None, Some, option_and_then, is_some, ℤ, pos, ◌+ℤ◌, ◌-ℤ◌}
 use Rattle.std.specs.Option.{option_map}
 use Rattle.ff_rec.specs.Fields.{field_at, same_bytes}
 use Rattle.ff_rec.specs.Lines.{Rec}
 use Rattle.ff_rec.specs.Number.{printed}
 use Rattle.ff_node.specs.Behaviour.{Behaviour}
+use Rattle.ff_node.specs.Sends.{Sent, add}
 use Rattle.ff_node.specs.declared.class.Class.TheVariants.{Ordered}
 use Rattle.ff_ops.specs.Rows.{in_range, number_in, with_number, sends_of, rejects_of}
 use Rattle.ff_ops.specs.declared.ordered_op.OrderedOp.{OrderedOp}
@@ -49,11 +50,7 @@ ordered_next o r = if is_some (ordered_answer o r) then after_sent o r else o
 -- `take` ends once its state becomes 0
 abbrev pub ordered_ends : OrderedOp → Rec → Bool
 ordered_ends (Take n left) r = nat_le left 1
-ordered_ends (Number n) r = false
-ordered_ends (RunSum f s) r = false
-ordered_ends (Delta f s) r = false
-ordered_ends (Skip n left) r = false
-ordered_ends (Uniq f before) r = false
+ordered_ends o r = false
 
 -- the opening states
 abbrev pub ordered_opening : OrderedOp → OrderedOp
@@ -75,3 +72,8 @@ ordered_node = record {
   last = λ o. [];
   last_rejects = λ o. [];
 }
+
+-- the state and what is gathered, before and after a record
+pub record IsStep (o : OrderedOp) (r : Rec) (s : Sent) (o' : OrderedOp) (s' : Sent) : Type 0 where
+  pub state : o' ≡ ordered_next o r
+  pub sends : s' ≡ add s (sends_of (ordered_answer o r)) (rejects_of (ordered_answer o r) r)

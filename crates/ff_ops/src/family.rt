@@ -1,12 +1,13 @@
 // Every operation as one of the five families.
 ghost use Rattle.std.specs.Prelude.{◌≡◌, IfOk};
-ghost use Rattle.ff_ops.specs.Families.{number_at, count_at, cmp_at, text_at, family_of};
+ghost use Rattle.ff_ops.specs.Families.{family_of};
 
+use crate::given::{cmp_at, count_at, needle_at, number_at, text_at};
 use crate::{
-    Arg, Counts, FieldOp, FoldNode, FoldOp, KeyedOp, Needle, NumberOp, OrderedOp, Row, Totals,
+    Arg, Counts, FieldOp, FoldNode, FoldOp, KeyedOp, NumberOp, NumberRule, OrderedOp, Row, Totals,
 };
-use ff_node::{Class, Cmp, Next, Node, Sends};
-use ff_rec::{Field, Kept, NoMemory, Record};
+use ff_node::{Class, Next, Node, Sends};
+use ff_rec::{NoMemory, Record};
 use std::alloc::Global;
 
 /// An operation with its arguments and its state.
@@ -26,15 +27,16 @@ impl Family {
     {
         let first = count_at(args, 0);
         let field = first as usize;
+        let number = |rule| Family::Number(NumberOp { field, rule });
         let fold = |op| Family::Fold(FoldNode::new(alloc, op));
         Ok(match row {
             Row::Id => Family::Field(FieldOp::Id),
-            Row::Add => Family::Number(NumberOp::Add(field, number_at(args, 1))),
-            Row::Sub => Family::Number(NumberOp::Sub(field, number_at(args, 1))),
-            Row::Mul => Family::Number(NumberOp::Mul(field, number_at(args, 1))),
-            Row::Div => Family::Number(NumberOp::Div(field, number_at(args, 1))),
-            Row::Rem => Family::Number(NumberOp::Rem(field, number_at(args, 1))),
-            Row::Neg => Family::Number(NumberOp::Neg(field)),
+            Row::Add => number(NumberRule::Add(number_at(args, 1))),
+            Row::Sub => number(NumberRule::Sub(number_at(args, 1))),
+            Row::Mul => number(NumberRule::Mul(number_at(args, 1))),
+            Row::Div => number(NumberRule::Div(number_at(args, 1))),
+            Row::Rem => number(NumberRule::Rem(number_at(args, 1))),
+            Row::Neg => number(NumberRule::Neg),
             Row::Set => Family::Field(FieldOp::Set(field, text_at(alloc, args, 1)?)),
             Row::Keep => Family::Field(FieldOp::Keep(field)),
             Row::Drop => Family::Field(FieldOp::Drop(field)),
@@ -43,13 +45,13 @@ impl Family {
             Row::Len => Family::Field(FieldOp::Len(field)),
             Row::Upper => Family::Field(FieldOp::Upper(field)),
             Row::Lower => Family::Field(FieldOp::Lower(field)),
-            Row::If => { Family::Number(NumberOp::If(field, cmp_at(args, 1), number_at(args, 2))) }
+            Row::If => number(NumberRule::If(cmp_at(args, 1), number_at(args, 2))),
             Row::IfEq => Family::Field(FieldOp::IfEq(field, text_at(alloc, args, 1)?)),
             Row::Has => Family::Field(FieldOp::Has(field, needle_at(alloc, args, 1)?)),
             Row::Words => Family::Field(FieldOp::Words(field)),
             Row::Dup => Family::Field(FieldOp::Dup(field)),
-            Row::Halve => Family::Number(NumberOp::Halve(field)),
-            Row::Plus => Family::Number(NumberOp::Plus(field, count_at(args, 1) as usize)),
+            Row::Halve => number(NumberRule::Halve),
+            Row::Plus => number(NumberRule::Plus(count_at(args, 1) as usize)),
             Row::Number => Family::Ordered(OrderedOp::Number(1)),
             Row::RunSum => Family::Ordered(OrderedOp::RunSum(field, 0)),
             Row::Delta => Family::Ordered(OrderedOp::Delta(field, 0)),
@@ -62,58 +64,11 @@ impl Family {
             Row::Max => fold(FoldOp::Max(field, None)),
             Row::TallyBy => Family::Keyed(KeyedOp::TallyBy(first, Counts::new(alloc))),
             Row::TotalBy => {
-                Family::Keyed(KeyedOp::TotalBy(
-                    first,
-                    count_at(args, 1) as usize,
-                    Totals::new(alloc),
-                ))
+                let second = count_at(args, 1) as usize;
+                Family::Keyed(KeyedOp::TotalBy(first, second, Totals::new(alloc)))
             }
         })
     }
-}
-
-// The number among the arguments, counted from 0; 0 where there is none.
-fn number_at(args: &[Arg], k: usize) -> i64
-    ensures { result ≡ number_at args.now k }
-{
-    match args.get(k) {
-        Some(Arg::Num(n)) => *n,
-        _ => 0,
-    }
-}
-
-// The same as a count or a field number, of 32 bits; 0 for any other number.
-fn count_at(args: &[Arg], k: usize) -> u32
-    ensures { result ≡ count_at args.now k }
-{
-    u32::try_from(number_at(args, k)).unwrap_or(0)
-}
-
-// The comparison among the arguments; equality where there is none.
-fn cmp_at(args: &[Arg], k: usize) -> Cmp
-    ensures { result ≡ cmp_at args.now k }
-{
-    match args.get(k) {
-        Some(Arg::Cmp(cmp)) => *cmp,
-        _ => Cmp::Eq,
-    }
-}
-
-// The text among the arguments; the empty one where there is none.
-fn text_at(alloc: Global, args: &[Arg], k: usize) -> Result<Field, NoMemory>
-    ensures { IfOk result (λ text. text ≡ text_at args.now k) }
-{
-    match args.get(k) {
-        Some(Arg::Text(text)) => text.copy(),
-        _ => Field::of_plain(alloc, b""),
-    }
-}
-
-// The same text, to be looked for.
-fn needle_at(alloc: Global, args: &[Arg], k: usize) -> Result<Needle, NoMemory>
-    ensures { IfOk result (λ needle. needle ≡ text_at args.now k) }
-{
-    Needle::new(alloc, &text_at(alloc, args, k)?)
 }
 
 impl Node for Family {

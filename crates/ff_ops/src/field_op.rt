@@ -7,8 +7,6 @@ mod edits;
 mod fields;
 mod filters;
 mod several;
-#[cfg(test)]
-mod tests;
 
 use crate::Needle;
 use edits::{

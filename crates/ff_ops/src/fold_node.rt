@@ -2,9 +2,6 @@
 ghost use Rattle.std.specs.Prelude.{◌≡◌};
 ghost use Rattle.ff_node.specs.Behaviour.{Behaviour};
 
-#[cfg(test)]
-mod tests;
-
 use crate::FoldOp;
 use ff_node::{Class, Next, Node, Sends};
 use ff_rec::{NoMemory, Record, print_number};

@@ -1,12 +1,10 @@
 // Operations that send at the end alone: their arguments and their states.
 ghost use Rattle.std.specs.Prelude.{◌≡◌, ◌≤◌, ◌^◌, ◌-ℤ◌, pos, min};
-ghost use Rattle.ff_ops.specs.FoldOps.{above, below, capped_sum, lesser, greater, fold_field, fold_next, fold_last, fold_opening, one_number};
-ghost use Rattle.ff_ops.specs.FoldOpLaws.{KeepsOrRejects};
+ghost use Rattle.ff_ops.specs.FoldOps.{above, below, capped_sum, lesser, greater, fold_field, fold_next, fold_last, fold_opening, one_number, KeepsOrRejects};
 
-use crate::numbers::number_at;
 use ff_rec::Record;
 
-/// The sums of `total` stand still here.
+// The sums of `total` stand still here.
 const MOST: u128 = 1 << 126;
 
 /// A fold over all records.
@@ -34,7 +32,7 @@ impl FoldOp {
                 *count = count.saturating_add(1);
                 true
             }
-            FoldOp::Total(field, plus, minus) => match number_at(r, *field) {
+            FoldOp::Total(field, plus, minus) => match r.number(*field) {
                 Some(x) => {
                     *plus = add_capped(*plus, above(x));
                     *minus = add_capped(*minus, below(x));
@@ -42,14 +40,14 @@ impl FoldOp {
                 }
                 None => false,
             },
-            FoldOp::Min(field, least) => match number_at(r, *field) {
+            FoldOp::Min(field, least) => match r.number(*field) {
                 Some(x) => {
                     *least = Some(lesser(*least, x));
                     true
                 }
                 None => false,
             },
-            FoldOp::Max(field, most) => match number_at(r, *field) {
+            FoldOp::Max(field, most) => match r.number(*field) {
                 Some(x) => {
                     *most = Some(greater(*most, x));
                     true
@@ -84,34 +82,35 @@ impl FoldOp {
     }
 }
 
-// A sum that stands still at the most.
+/// A sum that stands still at the most.
 pub(crate) fn add_capped(sum: u128, more: u64) -> u128
     ensures { result ≡ capped_sum sum more }
 {
     sum.saturating_add(u128::from(more)).min(MOST)
 }
 
-// What a number adds to the sum of those above 0.
+/// What a number adds to the sum of those above 0.
 pub(crate) fn above(x: i64) -> u64
     ensures { result ≡ above x }
 {
     if x < 0 { 0 } else { x.unsigned_abs() }
 }
 
-// What it adds to the sum of the absolute values of those below.
+/// What it adds to the sum of the absolute values of those below.
 pub(crate) fn below(x: i64) -> u64
     ensures { result ≡ below x }
 {
     if x < 0 { x.unsigned_abs() } else { 0 }
 }
 
-// The one sum less the other, each at most the most.
+/// The one sum less the other, each at most the most.
 pub(crate) fn difference(plus: u128, minus: u128) -> i128
     ensures { result ≡ pos (min plus (2 ^ 126)) -ℤ pos (min minus (2 ^ 126)) }
 {
     plus.min(MOST) as i128 - minus.min(MOST) as i128
 }
 
+// The lesser of a number and what was seen before.
 fn lesser(least: Option<i64>, x: i64) -> i64
     ensures { result ≡ lesser least x }
 {
@@ -121,6 +120,7 @@ fn lesser(least: Option<i64>, x: i64) -> i64
     }
 }
 
+// The greater of a number and what was seen before.
 fn greater(most: Option<i64>, x: i64) -> i64
     ensures { result ≡ greater most x }
 {

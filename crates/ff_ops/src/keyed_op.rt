@@ -1,10 +1,6 @@
 // Operations that send at the end alone, a record for each content of a field: their arguments and their states.
 ghost use Rattle.std.specs.Prelude.{◌≡◌};
 
-#[cfg(test)]
-mod tests;
-
-use crate::numbers::number_at;
 use crate::{Counts, Totals};
 use ff_node::{Class, Next, Node, Sends};
 use ff_rec::{NoMemory, Record};
@@ -41,7 +37,7 @@ impl KeyedOp {
                 let Some(key) = r.field(*field as usize) else {
                     return Ok(false);
                 };
-                let Some(x) = number_at(r, *number) else {
+                let Some(x) = r.number(*number) else {
                     return Ok(false);
                 };
                 totals.add(key, x)?;

@@ -8,16 +8,17 @@ mod family;
 mod field_op;
 mod fold_node;
 mod fold_op;
+mod given;
 mod keyed_op;
 mod laws;
 mod needle;
 mod number_op;
-mod numbers;
 mod op;
 mod ordered_op;
 mod row;
+mod table;
 #[cfg(test)]
-mod runs;
+mod tests;
 mod totals;
 
 pub use arg::{Arg, ArgKind};
@@ -27,10 +28,14 @@ pub use field_op::FieldOp;
 pub use fold_node::FoldNode;
 pub use fold_op::FoldOp;
 pub use keyed_op::KeyedOp;
-pub use laws::{tally_is_the_number_of_records, total_is_the_difference_of_two_sums};
+pub use laws::{
+    folds_of_numbers_reject_the_rest, max_is_the_greatest_number, min_is_the_least_number,
+    tally_is_the_number_of_records, tallyby_counts_each_content,
+    total_is_the_difference_of_two_sums, totalby_totals_each_content,
+};
 pub use needle::Needle;
-pub use number_op::NumberOp;
-pub use op::{Op, OpFault, OpNode};
+pub use number_op::{NumberOp, NumberRule};
+pub use op::{Op, OpFault};
 pub use ordered_op::OrderedOp;
 pub use row::{ROWS, Row, shape};
 pub use totals::Totals;

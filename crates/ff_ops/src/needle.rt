@@ -22,6 +22,7 @@ impl Model for Needle {
 }
 
 impl Needle {
+    /// The search for a text.
     pub fn new(alloc: Global, text: &Field) -> Result<Needle, NoMemory>
         ensures { IfOk result (λ needle. needle ≡ text.now) }
     {

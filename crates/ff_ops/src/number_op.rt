@@ -1,95 +1,82 @@
-// Operations on a number in a field. Fields are counted from 1.
-ghost use Rattle.std.specs.Prelude.{◌≡◌, ◌≤◌, length, option_and_then, OnSome};
-ghost use Rattle.std.specs.Option.{option_map};
-ghost use Rattle.ff_ops.specs.NumberAnswers.{answer_for, field_of, same_if};
-ghost use Rattle.ff_ops.specs.Rows.{number_in};
-ghost use Rattle.ff_ops.specs.declared.number_op.answer.Answer.TheVariants.{Becomes};
+// Operations on a number in a field.
+ghost use Rattle.std.specs.Prelude.{◌≡◌, ◌≤◌, length, OnSome};
+ghost use Rattle.ff_ops.specs.NumberOps.{answer_for, same_if, becomes, decided};
 
 mod answer;
 mod arithmetic;
-#[cfg(test)]
-mod tests;
 
-use crate::numbers::number_at;
 use answer::Answer;
 use arithmetic::{difference, halves, negated, product, quotient, remainder, sum};
-use ff_node::{Class, Cmp, Next, Node, Sends};
-use ff_rec::{NoMemory, Record};
+use ff_node::{Class, Next, Node, Sends};
+use ff_rec::{Cmp, NoMemory, Record};
 
 /// An operation that works on the number in a field. It rejects a record whose field isn't there or isn't a number, or
 /// whose result is out of range.
 #[derive(Clone, Copy, Debug, PartialEq, Eq, Hash)]
-pub enum NumberOp {
-    /// The field becomes its number and another together.
-    Add(usize, i64),
-    /// The field becomes its number less another.
-    Sub(usize, i64),
-    Mul(usize, i64),
-    /// The field becomes the quotient towards zero.
-    Div(usize, i64),
-    /// The field becomes what that quotient leaves.
-    Rem(usize, i64),
-    Neg(usize),
-    /// The record is sent where its number compares so.
-    If(usize, Cmp, i64),
-    /// The record is sent twice: with half of the number, rounded down, and with the rest.
-    Halve(usize),
-    /// The first field becomes the sum of both.
-    Plus(usize, usize),
+pub struct NumberOp {
+    /// The field whose number is read, and changed; counted from 1.
+    pub field: usize,
+    pub rule: NumberRule,
 }
 
-impl NumberOp {
-    // The field whose number is read, and changed.
-    fn field(&self) -> usize
-        ensures { result ≡ field_of self.now }
-    {
-        match *self {
-            NumberOp::Add(field, _)
-            | NumberOp::Sub(field, _)
-            | NumberOp::Mul(field, _)
-            | NumberOp::Div(field, _)
-            | NumberOp::Rem(field, _)
-            | NumberOp::Neg(field)
-            | NumberOp::If(field, _, _)
-            | NumberOp::Halve(field)
-            | NumberOp::Plus(field, _) => field,
-        }
-    }
+/// What becomes of the number in the field.
+#[derive(Clone, Copy, Debug, PartialEq, Eq, Hash)]
+pub enum NumberRule {
+    /// It becomes the sum of it and another.
+    Add(i64),
+    /// It becomes the difference to another.
+    Sub(i64),
+    Mul(i64),
+    /// It becomes the quotient towards zero.
+    Div(i64),
+    /// It becomes what that quotient leaves.
+    Rem(i64),
+    Neg,
+    /// The record is sent where the number compares so.
+    If(Cmp, i64),
+    /// The record is sent twice: with half of the number, rounded down, and with the rest.
+    Halve,
+    /// It becomes the sum of it and the number in another field.
+    Plus(usize),
+}
 
-    // What becomes of a record with the number `x` in that field, or none where it is rejected.
-    fn answer(&self, r: &Record, x: i64) -> Option<Answer>
-        ensures { result ≡ answer_for self.now r.now x }
+impl NumberRule {
+    // What becomes of a record with the number `x` in the field, or none where it is rejected.
+    fn answer(self, r: &Record, x: i64) -> Option<Answer>
+        ensures { result ≡ answer_for self r.now x }
     {
-        match *self {
-            NumberOp::Add(_, k) => becomes(sum(x, k)),
-            NumberOp::Sub(_, k) => becomes(difference(x, k)),
-            NumberOp::Mul(_, k) => becomes(product(x, k)),
-            NumberOp::Div(_, k) => becomes(quotient(x, k)),
-            NumberOp::Rem(_, k) => becomes(remainder(x, k)),
-            NumberOp::Neg(_) => becomes(negated(x)),
-            NumberOp::If(_, cmp, k) => Some(same_if(cmp.holds(x, k))),
-            NumberOp::Halve(_) => {
+        match self {
+            NumberRule::Add(k) => becomes(sum(x, k)),
+            NumberRule::Sub(k) => becomes(difference(x, k)),
+            NumberRule::Mul(k) => becomes(product(x, k)),
+            NumberRule::Div(k) => becomes(quotient(x, k)),
+            NumberRule::Rem(k) => becomes(remainder(x, k)),
+            NumberRule::Neg => becomes(negated(x)),
+            NumberRule::If(cmp, k) => Some(same_if(cmp.holds(x, k))),
+            NumberRule::Halve => {
                 let (half, rest) = halves(x);
                 Some(Answer::Halves(half, rest))
             }
-            NumberOp::Plus(_, other) => becomes(sum(x, number_at(r, other)?)),
+            NumberRule::Plus(other) => becomes(sum(x, r.number(other)?)),
         }
     }
+}
 
+impl NumberOp {
     // What becomes of a record, or none where it is rejected.
     fn decide(&self, r: &Record) -> Option<Answer>
-        ensures answer { result ≡ option_and_then (answer_for self.now r.now) (number_in (field_of self.now) r.now) }
-        ensures low { OnSome result (1 ≤ field_of self.now) }
-        ensures high { OnSome result (field_of self.now ≤ length r.now) }
+        ensures answer { result ≡ decided self.now r.now }
+        ensures low { OnSome result (1 ≤ self.now.field) }
+        ensures high { OnSome result (self.now.field ≤ length r.now) }
     {
-        let x = number_at(r, self.field())?;
-        self.answer(r, x)
+        let x = r.number(self.field)?;
+        self.rule.answer(r, x)
     }
 }
 
 // The answer that a number takes the place of the one in the field, where there is one.
 fn becomes(n: Option<i64>) -> Option<Answer>
-    ensures { result ≡ option_map (λ n. Becomes n) n }
+    ensures { result ≡ becomes n }
 {
     Some(Answer::Becomes(n?))
 }
@@ -128,7 +115,7 @@ impl Node for NumberOp {
 
     fn svc(&mut self, r: Record, out: &mut Sends) -> Result<Next, NoMemory> {
         match self.decide(&r) {
-            Some(answer) => answer.send(self.field(), r, out)?,
+            Some(answer) => answer.send(self.field, r, out)?,
             None => out.reject(r)?,
         }
         Ok(Next::GoOn)

@@ -1,19 +1,19 @@
-// An operation, read and printed.
-ghost use Rattle.std.specs.Prelude.{◌≡◌, ◌⊎◌, ◌++◌, Ok, Err, IfOk, OnOk};
-ghost use Rattle.ff_ops.specs.Operation.{first_unsuited, first_outside, op_node, read_op, printed_arguments, printed_op};
-ghost use Rattle.ff_ops.specs.Table.{name_of};
+// An operation: read, made, printed.
+ghost use Rattle.std.specs.Prelude.{◌≡◌, ◌⊎◌, ◌++◌, Err, IfOk, OnOk};
+ghost use Rattle.ff_ops.specs.Arguments.{AllFit};
+ghost use Rattle.ff_ops.specs.Operation.{operation, read_op, op_text, IsReadAgain};
+ghost use Rattle.ff_ops.specs.Table.{kinds_of};
 
+mod arguments;
 mod node;
-#[cfg(test)]
-mod tests;
 
-use crate::{Arg, ArgKind, Family, Row};
-use ff_rec::{Kept, NoMemory};
-pub use node::OpNode;
+use crate::{Arg, Family, Row};
+use arguments::{copies, first_outside, first_unsuited, print_arguments};
+use ff_rec::NoMemory;
 use std::alloc::{AllocError, Global};
 use std::marker::Model;
 
-/// A row of the table with arguments that fit it.
+/// A row of the table with arguments that fit it, as a node.
 #[derive(Debug, Drop)]
 pub struct Op {
     row: Row,
@@ -23,16 +23,13 @@ pub struct Op {
 }
 
 impl Model for Op {
-    ghost use Rattle.std.specs.Prelude.{◌≡◌, Ok};
-    ghost use Rattle.ff_ops.specs.Families.{family_opening};
-    ghost use Rattle.ff_ops.specs.Operation.{OpState, read_op};
-    ghost use Rattle.ff_ops.specs.Table.{name_of};
+    ghost use Rattle.ff_ops.specs.Operation.{OpState, IsReadAgain, op_state};
 
     ghost Value = { OpState };
 
     ghost view = { λ o. record { row = o.row; args = o.args.items; family = o.family } };
 
-    ghost invariant = { λ o. read_op (name_of o.row) o.args.items ≡ Ok (record { row = o.row; args = o.args.items; family = family_opening o.family }) };
+    ghost invariant = { λ o. IsReadAgain (op_state o.row o.args.items o.family) };
 }
 
 /// Why a name with arguments is no operation. Places of arguments are counted from 0.
@@ -61,6 +58,15 @@ impl From<NoMemory> for OpFault {
 }
 
 impl Op {
+    /// The operation of a row with arguments that fit it, before its first record.
+    pub fn of_row(alloc: Global, row: Row, args: Vec<Arg>) -> Result<Op, NoMemory>
+        requires { AllFit args.items (kinds_of row) }
+        ensures { IfOk result (λ op. op ≡ operation row args.items) }
+    {
+        let family = Family::new(alloc, row, &args)?;
+        Ok(Op { row, args, family })
+    }
+
     /// The operation with this name and these arguments, before its first record.
     pub fn read(alloc: Global, name: &[u8], args: &[Arg]) -> Result<Op, OpFault>
         ensures { (result ≡ Err OpFault.NoMemory) ⊎ (result ≡ read_op name.now args.now) }
@@ -77,13 +83,10 @@ impl Op {
         if let Some(k) = first_outside(args, row.kinds()) {
             return Err(OpFault::ArgRange(k));
         }
-        Ok(Op {
-            row,
-            args: copies(alloc, args)?,
-            family: Family::new(alloc, row, args)?,
-        })
+        Ok(Op::of_row(alloc, row, copies(alloc, args)?)?)
     }
 
+    /// Its row of the table.
     pub fn row(&self) -> Row
         ensures row { result ≡ self.now.row }
     {
@@ -93,55 +96,16 @@ impl Op {
     /// Its arguments. Its name and these are read as this operation again.
     pub fn args(&self) -> &[Arg]
         ensures args { result.now ≡ self.now.args }
-        ensures reads { read_op (name_of self.now.row) self.now.args ≡ Ok (op_node.opening self.now) }
+        ensures reads { IsReadAgain self.now }
     {
         &self.args
     }
 
     /// Appends its name, and each argument behind a space. After a refusal some of it may have been appended.
     pub fn print(&self, into: &mut Vec<u8>) -> Result<(), NoMemory>
-        ensures { OnOk result (into.new.items ≡ into.old.items ++ printed_op self.now.row self.now.args) }
+        ensures { OnOk result (into.new.items ≡ into.old.items ++ op_text self.now) }
     {
         into.extend_from_slice(self.row.name())?;
         print_arguments(&self.args, into)
     }
-}
-
-// Appends each argument behind a space.
-fn print_arguments(args: &[Arg], into: &mut Vec<u8>) -> Result<(), NoMemory>
-    ensures { OnOk result (into.new.items ≡ into.old.items ++ printed_arguments args.now) }
-{
-    for arg in args {
-        into.push(b' ')?;
-        arg.print(into)?;
-    }
-    Ok(())
-}
-
-// The place of the first argument that isn't of its kind.
-fn first_unsuited(args: &[Arg], kinds: &[ArgKind]) -> Option<usize>
-    ensures { result ≡ first_unsuited args.now kinds.now }
-{
-    args.iter()
-        .zip(kinds)
-        .position(|(arg, kind)| !arg.suits(*kind))
-}
-
-// The place of the first argument that is outside the range of its kind.
-fn first_outside(args: &[Arg], kinds: &[ArgKind]) -> Option<usize>
-    ensures { result ≡ first_outside args.now kinds.now }
-{
-    args.iter()
-        .zip(kinds)
-        .position(|(arg, kind)| !arg.is_within(*kind))
-}
-
-fn copies(alloc: Global, args: &[Arg]) -> Result<Vec<Arg>, NoMemory>
-    ensures { IfOk result (λ copies. copies.items ≡ args.now) }
-{
-    let mut copies = Vec::with_capacity(alloc, args.len())?;
-    for arg in args {
-        copies.push(arg.copy()?)?;
-    }
-    Ok(copies)
 }

@@ -2,8 +2,6 @@
 ghost use Rattle.std.specs.Prelude.{◌≡◌, IfOk, OnOk};
 
 mod rows;
-#[cfg(test)]
-mod tests;
 
 use ff_node::{Class, Next, Node, Sends};
 use ff_rec::{Field, NoMemory, Record};

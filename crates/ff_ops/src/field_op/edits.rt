@@ -8,7 +8,7 @@ use super::fields::{field_copy, has_field};
 use ff_node::Sends;
 use ff_rec::{Field, MOST_FIELDS, NoMemory, Record};
 
-// `set F "T"`
+/// `set F "T"`
 pub(crate) fn set_field(
     f: usize,
     text: &Field,
@@ -24,7 +24,7 @@ pub(crate) fn set_field(
     out.send(r)
 }
 
-// `keep F`
+/// `keep F`
 pub(crate) fn keep_field(f: usize, mut r: Record, out: &mut Sends) -> Result<(), NoMemory>
     ensures { OnOk result (out.new ≡ answered out.old (field_answer (Keep f) r) r) }
 {
@@ -35,7 +35,7 @@ pub(crate) fn keep_field(f: usize, mut r: Record, out: &mut Sends) -> Result<(),
     out.send(r)
 }
 
-// `drop F`
+/// `drop F`
 pub(crate) fn drop_field(f: usize, mut r: Record, out: &mut Sends) -> Result<(), NoMemory>
     ensures { OnOk result (out.new ≡ answered out.old (field_answer (Drop f) r) r) }
 {
@@ -46,7 +46,7 @@ pub(crate) fn drop_field(f: usize, mut r: Record, out: &mut Sends) -> Result<(),
     out.send(r)
 }
 
-// `swap F G`
+/// `swap F G`
 pub(crate) fn swap_fields(
     f: usize,
     g: usize,
@@ -62,7 +62,7 @@ pub(crate) fn swap_fields(
     out.send(r)
 }
 
-// `copy F`
+/// `copy F`
 pub(crate) fn append_copy(f: usize, mut r: Record, out: &mut Sends) -> Result<(), NoMemory>
     ensures { OnOk result (out.new ≡ answered out.old (field_answer (Copy f) r) r) }
 {
@@ -78,7 +78,7 @@ pub(crate) fn append_copy(f: usize, mut r: Record, out: &mut Sends) -> Result<()
     }
 }
 
-// `len F`
+/// `len F`
 pub(crate) fn set_len(f: usize, mut r: Record, out: &mut Sends) -> Result<(), NoMemory>
     ensures { OnOk result (out.new ≡ answered out.old (field_answer (Len f) r) r) }
 {
@@ -91,7 +91,7 @@ pub(crate) fn set_len(f: usize, mut r: Record, out: &mut Sends) -> Result<(), No
     }
 }
 
-// `upper F`
+/// `upper F`
 pub(crate) fn set_uppercase(f: usize, mut r: Record, out: &mut Sends) -> Result<(), NoMemory>
     ensures { OnOk result (out.new ≡ answered out.old (field_answer (Upper f) r) r) }
 {
@@ -103,7 +103,7 @@ pub(crate) fn set_uppercase(f: usize, mut r: Record, out: &mut Sends) -> Result<
     out.send(r)
 }
 
-// `lower F`
+/// `lower F`
 pub(crate) fn set_lowercase(f: usize, mut r: Record, out: &mut Sends) -> Result<(), NoMemory>
     ensures { OnOk result (out.new ≡ answered out.old (field_answer (Lower f) r) r) }
 {

@@ -5,7 +5,7 @@ ghost use Rattle.ff_ops.specs.Answered.{IsThere};
 
 use ff_rec::{Field, NoMemory, Record};
 
-// Whether field `f` is there.
+/// Whether field `f` is there.
 pub(crate) fn has_field(f: usize, r: &Record) -> bool
     ensures there { IsTrue result → IsThere f r.now }
     ensures missing { result ≡ false → field_at f r.now ≡ None }
@@ -13,7 +13,7 @@ pub(crate) fn has_field(f: usize, r: &Record) -> bool
     r.field(f).is_some()
 }
 
-// The bytes of field `f`, kept apart from the record.
+/// The bytes of field `f`, kept apart from the record.
 pub(crate) fn field_copy(f: usize, r: &Record) -> Result<Option<Field>, NoMemory>
     ensures { IfOk result (λ field. field ≡ field_at f r.now) }
 {

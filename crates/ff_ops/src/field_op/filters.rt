@@ -10,7 +10,7 @@ use crate::Needle;
 use ff_node::Sends;
 use ff_rec::{Field, NoMemory, Record};
 
-// Sends a record that passes, lets one go that doesn't, and rejects one without the field that is asked for.
+/// Sends a record that passes, lets one go that doesn't, and rejects one without the field that is asked for.
 pub(crate) fn pass(passes: Option<bool>, r: Record, out: &mut Sends) -> Result<(), NoMemory>
     ensures { OnOk result (out.new ≡ answered out.old (option_map (λ passes. sent_if passes r) passes) r) }
 {
@@ -21,14 +21,14 @@ pub(crate) fn pass(passes: Option<bool>, r: Record, out: &mut Sends) -> Result<(
     }
 }
 
-// Whether field `f` is a text.
+/// Whether field `f` is a text.
 pub(crate) fn equals(f: usize, text: &Field, r: &Record) -> Option<bool>
     ensures { result ≡ option_map (λ bytes. same_bytes bytes text.now) (field_at f r.now) }
 {
     Some(r.field(f)? == text.bytes())
 }
 
-// Whether a text stands in field `f`.
+/// Whether a text stands in field `f`.
 pub(crate) fn contains(f: usize, text: &Needle, r: &Record) -> Option<bool>
     ensures { result ≡ option_map (λ bytes. occurs text.now bytes) (field_at f r.now) }
 {

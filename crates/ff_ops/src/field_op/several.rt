@@ -10,7 +10,7 @@ use ff_node::Sends;
 use ff_rec::{Kept, NoMemory, Record, split};
 use std::alloc::Global;
 
-// `words F`
+/// `words F`
 pub(crate) fn split_words(f: usize, r: Record, out: &mut Sends) -> Result<(), NoMemory>
     ensures { OnOk result (out.new ≡ answered out.old (field_answer (Words f) r) r) }
 {
@@ -36,7 +36,7 @@ fn send_words(alloc: Global, bytes: &[u8], out: &mut Sends) -> Result<(), NoMemo
     Ok(())
 }
 
-// `dup N`: the record itself goes last.
+/// `dup N`: the record itself goes last.
 pub(crate) fn send_times(n: usize, r: Record, out: &mut Sends) -> Result<(), NoMemory>
     ensures { OnOk result (out.new ≡ add out.old (replicate n r) []) }
 {

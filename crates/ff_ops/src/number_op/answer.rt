@@ -1,7 +1,7 @@
 // What becomes of a record that isn't rejected.
 ghost use Rattle.std.specs.Prelude.{◌≡◌, ◌≤◌, [], ◌∷◌, length, OnOk};
 ghost use Rattle.ff_node.specs.Sends.{add};
-ghost use Rattle.ff_ops.specs.NumberAnswers.{sent_by};
+ghost use Rattle.ff_ops.specs.NumberOps.{sent_by};
 ghost use Rattle.ff_ops.specs.Rows.{with_number};
 
 use ff_node::Sends;
@@ -21,7 +21,7 @@ pub(crate) enum Answer {
 }
 
 impl Answer {
-    // Sends what this says.
+    /// Sends what this says.
     pub(super) fn send(self, field: usize, r: Record, out: &mut Sends) -> Result<(), NoMemory>
         requires low { 1 ≤ field }
         requires high { field ≤ length r }

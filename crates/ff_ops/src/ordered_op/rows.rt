@@ -2,16 +2,14 @@
 ghost use Rattle.std.specs.Prelude.{◌≡◌, ◌≤◌, ◌-◌, [], ◌∷◌, length, nat_lt, nat_le, cond, if◌then◌else◌, OnOk, OnSome, IfOk, option_and_then, ◌+ℤ◌};
 ghost use Rattle.ff_node.specs.Next.{is_eos};
 ghost use Rattle.ff_node.specs.Sends.{add};
-ghost use Rattle.ff_ops.specs.OrderedOps.{differs};
-ghost use Rattle.ff_ops.specs.OrderedLaws.{IsStep};
+ghost use Rattle.ff_ops.specs.OrderedOps.{differs, IsStep};
 ghost use Rattle.ff_ops.specs.Rows.{in_range, number_in};
 ghost use Rattle.ff_ops.specs.declared.ordered_op.OrderedOp.TheVariants.{Number, RunSum, Delta, Uniq};
 
-use crate::numbers::number_at;
 use ff_node::{Next, Sends};
 use ff_rec::{Field, MOST_FIELDS, NoMemory, Record, print_number};
 
-/// The count of `number` stands still here.
+// The count of `number` stands still here.
 const LAST: u64 = (1 << 63) - 1;
 
 /// The count becomes a new first field, and grows.
@@ -49,7 +47,7 @@ fn sum_with(sum: i64, r: &Record, field: usize) -> Option<i64>
     ensures low { OnSome result (1 ≤ field) }
     ensures high { OnSome result (field ≤ length r.now) }
 {
-    let x = number_at(r, field)?;
+    let x = r.number(field)?;
     sum.checked_add(x)
 }
 
@@ -57,7 +55,7 @@ fn sum_with(sum: i64, r: &Record, field: usize) -> Option<i64>
 pub fn delta(field: usize, before: &mut i64, mut r: Record, out: &mut Sends) -> Result<(), NoMemory>
     ensures { OnOk result (IsStep (Delta field before.old) r out.old (Delta field before.new) out.new) }
 {
-    let Some(x) = number_at(&r, field) else {
+    let Some(x) = r.number(field) else {
         return out.reject(r);
     };
     let Some(difference) = x.checked_sub(*before) else {

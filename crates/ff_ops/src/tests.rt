@@ -1,9 +1,13 @@
 // What no clause says: that the calls succeed while memory is there, and that names and arguments are the table's.
-use super::{Op, OpFault, OpNode};
-use crate::runs::check_run;
-use crate::{Arg, ROWS, shape};
-use ff_node::{Cmp, Comb, Node};
-use ff_rec::{Field, Kept, read_number};
+mod fields;
+mod folds;
+mod numbers;
+mod ordered;
+mod runs;
+
+use crate::{Arg, Op, OpFault, ROWS, shape};
+use ff_node::Node;
+use ff_rec::{Cmp, Field, read_number};
 use std::alloc::Global;
 use std::process::Abort;
 use std::test::Fail;
@@ -33,9 +37,20 @@ fn read(alloc: Global, text: &str) -> Result<Result<Op, OpFault>, Fail> {
     Ok(Op::read(alloc, name.as_bytes(), &args))
 }
 
+// An operation is read, has so many arguments, and is printed as it was read; so is its copy.
+fn check_text(rt: &impl Abort, alloc: Global, text: &str, arguments: usize) -> Result<(), Fail> {
+    let op = read(alloc, text)??;
+    let mut printed = Vec::new(alloc);
+    Node::copy(&op)?.print(&mut printed)?;
+    assert_eq!(rt; printed.as_slice(), text.as_bytes());
+    assert_eq!(rt; op.args().len(), arguments);
+    let kinds = shape(op.row().name()).ok_or("no shape")?;
+    assert_eq!(rt; kinds.len(), arguments, "{text}");
+    Ok(())
+}
+
 #[test]
 fn each_row_is_read_and_printed(rt: HostRuntime) -> Result<(), Fail> {
-    let alloc = rt.alloc();
     let rows = [
         ("id", 0),
         ("add 1 -5", 2),
@@ -74,23 +89,11 @@ fn each_row_is_read_and_printed(rt: HostRuntime) -> Result<(), Fail> {
     ];
     assert_eq!(rt; rows.len(), ROWS.len());
     for (text, arguments) in rows {
-        check_text(&rt, alloc, text, arguments)?;
+        check_text(&rt, rt.alloc(), text, arguments)?;
     }
     for text in ["if 1 < 0", "if 1 <= 0", "if 1 = 0", "if 1 >= 0", "if 1 > 0"] {
-        check_text(&rt, alloc, text, 3)?;
+        check_text(&rt, rt.alloc(), text, 3)?;
     }
-    Ok(())
-}
-
-// An operation is read, has so many arguments, and is printed as it was read.
-fn check_text(rt: &impl Abort, alloc: Global, text: &str, arguments: usize) -> Result<(), Fail> {
-    let op = read(alloc, text)??;
-    let mut printed = Vec::new(alloc);
-    op.print(&mut printed)?;
-    assert_eq!(rt; printed.as_slice(), text.as_bytes());
-    assert_eq!(rt; op.args().len(), arguments);
-    let kinds = shape(op.row().name()).ok_or("no shape")?;
-    assert_eq!(rt; kinds.len(), arguments, "{text}");
     Ok(())
 }
 
@@ -124,64 +127,5 @@ fn refusals_come_in_their_order(rt: HostRuntime) -> Result<(), Fail> {
         }
     }
     assert_eq!(rt; shape(b"addx").is_none(), true);
-    Ok(())
-}
-
-#[test]
-fn a_node_does_what_its_operation_says(rt: HostRuntime) -> Result<(), Fail> {
-    let alloc = rt.alloc();
-    for (text, lines, sends, rejects) in [
-        ("add 1 5", ["1", "x", "2"].as_slice(), "6\n7\n", "x\n"),
-        ("set 2 \"z\"", ["a\tb", "a"].as_slice(), "a\tz\n", "a\n"),
-        ("take 2", ["a", "b", "c"].as_slice(), "a\nb\n", ""),
-        ("total 1", ["1", "-5"].as_slice(), "-4\n", ""),
-        ("tallyby 1", ["b", "a", "b"].as_slice(), "a\t1\nb\t2\n", ""),
-        (
-            "totalby 1 2",
-            ["b\t1", "a\t5", "b\t2", "c"].as_slice(),
-            "a\t5\nb\t3\n",
-            "c\n",
-        ),
-    ] {
-        let mut node = OpNode::new(read(alloc, text)??);
-        check_run(&rt, alloc, &mut node, lines, sends, rejects)?;
-        check_run(&rt, alloc, &mut Node::copy(&node)?, lines, sends, rejects)?;
-        assert_eq!(rt; node.op().args().len() + 1, text.split(' ').count());
-    }
-    Ok(())
-}
-
-#[test]
-fn a_comb_gives_what_its_parts_give_in_turn(rt: HostRuntime) -> Result<(), Fail> {
-    let alloc = rt.alloc();
-    let mut parts = Vec::new(alloc);
-    for (text, lines, sends, rejects) in [
-        (
-            "add 1 1",
-            ["1", "2", "z", "4"].as_slice(),
-            "2\n3\n5\n",
-            "z\n",
-        ),
-        // It ends by itself, and drops the third record.
-        ("take 2", ["2", "3", "5"].as_slice(), "2\n3\n", ""),
-        ("total 1", ["2", "3"].as_slice(), "5\n", ""),
-    ] {
-        let mut node = OpNode::new(read(alloc, text)??);
-        check_run(&rt, alloc, &mut node, lines, sends, rejects)?;
-        parts.push(node)?;
-    }
-    assert_eq!(rt; parts.len(), 3);
-    let mut comb = Comb::new(parts);
-    check_run(&rt, alloc, &mut comb, &["1", "2", "z", "4"], "5\n", "z\n")
-}
-
-#[test]
-fn an_argument_is_copied(rt: HostRuntime) -> Result<(), Fail> {
-    let alloc = rt.alloc();
-    for text in ["-7", ">=", "\"a\""] {
-        let mut printed = Vec::new(alloc);
-        Kept::copy(&argument(alloc, text)?)?.print(&mut printed)?;
-        assert_eq!(rt; printed.as_slice(), text.as_bytes());
-    }
     Ok(())
 }

@@ -1,6 +1,6 @@
 use Rattle.std.proofs.Common.{◌≡◌, ◌++◌, take}
 use Rattle.ff_ops.specs.Operation.{printed_arguments}
-use Rattle.ff_ops.proofs.op.print_arguments.Given as goal
+use Rattle.ff_ops.proofs.op.arguments.print_arguments.Given as goal
 
 -- the arguments up to here are printed
 abbrev pub invariant-loop-arg : goal.invariant-loop-arg

@@ -1,12 +1,25 @@
-// Runs of a node in tests.
+// Runs of an operation.
 use ff_node::{Next, Node, Sends};
 use ff_rec::{Record, print_record, split};
 use std::alloc::Global;
 use std::process::Abort;
 use std::test::Fail;
 
-/// A node that takes these lines sends these texts and rejects those, each with its newline.
-pub fn check_run(
+/// An operation, the lines that it takes, and the texts that it sends and rejects, each with its newline.
+pub type Run<'a> = (&'a str, &'a [&'a str], &'a str, &'a str);
+
+/// Each operation does what its run says, and so does its copy after that.
+pub fn check_runs(rt: &impl Abort, alloc: Global, runs: &[Run]) -> Result<(), Fail> {
+    for (text, lines, sends, rejects) in runs {
+        let mut op = super::read(alloc, text)??;
+        check_run(rt, alloc, &mut op, lines, sends, rejects)?;
+        check_run(rt, alloc, &mut Node::copy(&op)?, lines, sends, rejects)?;
+    }
+    Ok(())
+}
+
+// A node that takes these lines sends and rejects these texts.
+fn check_run(
     rt: &impl Abort,
     alloc: Global,
     node: &mut impl Node,
@@ -36,6 +49,7 @@ pub fn check_run(
     Ok(())
 }
 
+// What was sent, as text.
 fn all_sends(alloc: Global, out: &mut Sends) -> Result<Vec<u8>, Fail> {
     let mut text = Vec::new(alloc);
     for _ in 0..out.len() {
@@ -46,6 +60,7 @@ fn all_sends(alloc: Global, out: &mut Sends) -> Result<Vec<u8>, Fail> {
     Ok(text)
 }
 
+// What was rejected, as text.
 fn all_rejects(alloc: Global, out: &mut Sends) -> Result<Vec<u8>, Fail> {
     let mut text = Vec::new(alloc);
     for _ in 0..out.rejects() {

@@ -33,7 +33,7 @@ same_bytes-other k c other = by (same_bytes k c) refl
     by true is = absurd (other (ap (λ (b : List ℕ). slice_cmp nat_cmp b k) (sym ((bytes_decides k c).0 is)) ∙ Equal-refl k))
     by false is = refl
 
-same_bytes-refl : (k : List ℕ) → same_bytes k k ≡ true
+pub same_bytes-refl : (k : List ℕ) → same_bytes k k ≡ true
 same_bytes-refl k = (bytes_decides k k).1 refl
 
 -- the records of a content that isn't there
@@ -170,7 +170,7 @@ module _ {V X : Type 0} (none : V) (act : X → V → V) (f : ℕ) (amount : Rec
   steps-first es x (y ∷ ys) = ap (λ (s : List (Entry V)). steps s ys) (step-swap es x y) ∙ steps-first (step es y) x ys
 
   -- the value that these records give a key
-  abbrev valued : List ℕ → List Rec → Option V
+  abbrev pub valued : List ℕ → List Rec → Option V
   valued k [] = None
   valued k (x ∷ xs) = later none act (passes (same_bytes k) (field_at f x)) (amount x) (valued k xs)
 
@@ -218,7 +218,7 @@ module _ {V X : Type 0} (none : V) (act : X → V → V) (f : ℕ) (amount : Rec
   table-same w w' (k ∷ cs) same = ap₂ (λ (v : Option V) (rest : List (Entry V)). own k v ++ rest) (sym (same k)) (table-same w w' cs same)
 
   -- the entries of records are the table of their contents
-  steps-table : (xs : List Rec) → steps [] xs ≡ table (λ k. valued k xs) (contents f xs)
+  pub steps-table : (xs : List Rec) → steps [] xs ≡ table (λ k. valued k xs) (contents f xs)
   steps-table [] = refl
   steps-table (x ∷ xs) = steps-first [] x xs ∙ ap (λ (s : List (Entry V)). step s x) (steps-table xs) ∙ by (field_at f x) (amount x) refl refl
     where
