@@ -1,4 +1,4 @@
-pub mod Lines
+pub mod Pipelines
 pub mod NodeSteps
 pub mod Sorting
 pub mod LevelSteps

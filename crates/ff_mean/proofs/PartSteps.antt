@@ -17,8 +17,8 @@ use Rattle.ff_net.specs.Good.{GoodParts, EachTopOrNone}
 use Rattle.ff_net.specs.Meaning.{mean, mean_through, mean_rejected, mean_rejected_through, Fine, FineThrough}
 use Rattle.ff_net.specs.Tree.{Tree, Trees, none, more, tree_of, trees_of}
 use Rattle.ff_mean.specs.Gathering.{Gathers, HasRun, HasRunNet, HasRunParts, HasRunRounds}
-use Rattle.ff_mean.specs.Runs.{nodes_in}
-use Rattle.ff_mean.proofs.Lines.{is_pipeline, pipeline-opened, pipeline_rejected-opened}
+use Rattle.ff_net.specs.Nodes.{nodes_in}
+use Rattle.ff_mean.proofs.Pipelines.{is_pipeline, pipeline-opened, pipeline_rejected-opened}
 use Rattle.ff_mean.proofs.NodeSteps.{empty-added}
 
 -- what holds of an answer, where memory was not out

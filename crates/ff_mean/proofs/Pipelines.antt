@@ -1,16 +1,13 @@
 -- A network without feedback is its nodes one behind another.
 use Rattle.std.proofs.Common.{◌≡◌, ℕ, false, List, [], ◌∷◌, ◌++◌, map, refl, sym, ap, ◌∙◌, append_assoc, append-nil}
-use Rattle.std.proofs.lemmas.List.{map-append}
 use Rattle.ff_rec.specs.Lines.{Rec}
 use Rattle.ff_node.specs.Behaviour.{Behaviour, KeepsKind, node, node_rejected, sent_from, rejected_from, pipeline, pipeline_rejected}
 use Rattle.ff_net.specs.Forms.{has_wrap, any_wrap}
 use Rattle.ff_net.specs.Meaning.{mean, mean_through, mean_rejected, mean_rejected_through, FineThrough}
-use Rattle.ff_net.specs.Tree.{Tree, Trees, Leaf, Pipe, Comb, Farm, OFarm, A2a, Wrap, none, more, tree_of-Pipe, tree_of-Comb}
+use Rattle.ff_net.specs.Tree.{Tree, Trees, Leaf, Pipe, Comb, Farm, OFarm, A2a, Wrap, none, more}
 use Rattle.ff_net.proofs.Kept.{or-false}
-use Rattle.ff_mean.specs.Runs.{nodes_in, nodes_through, IsLine}
-
--- lists of nodes, part by part
-pub ruleset node_lists = (tree_of-Pipe, tree_of-Comb, map-append, append_assoc)
+use Rattle.ff_net.specs.Nodes.{nodes_in, nodes_through}
+use Rattle.ff_mean.specs.Runs.{IsPipeline}
 
 module _ {N : Type 0} (b : Behaviour N) where
   -- nodes behind other nodes
@@ -41,7 +38,7 @@ module _ {N : Type 0} (b : Behaviour N) where
       ∙ sym (pipeline_rejected-append os ps xs)
 
   mutual
-    pub is_pipeline : (t : Tree N) → has_wrap t ≡ false → IsLine b t
+    pub is_pipeline : (t : Tree N) → has_wrap t ≡ false → IsPipeline b t
     is_pipeline (Leaf o) none_there = record { mean = λ m xs. refl; rejected = λ m xs. sym (append-nil (node_rejected b o xs)); fine = λ m xs. tt }
     is_pipeline (Pipe ts) none_there = record { mean = λ m xs. mean_parts ts none_there m xs; rejected = λ m xs. mean_rejected_parts ts none_there m xs; fine = λ m xs. fine_parts ts none_there m xs }
     is_pipeline (Comb ts) none_there = record { mean = λ m xs. mean_parts ts none_there m xs; rejected = λ m xs. mean_rejected_parts ts none_there m xs; fine = λ m xs. fine_parts ts none_there m xs }

@@ -20,8 +20,8 @@ use Rattle.ff_net.specs.RuleTests.{is_leaf}
 use Rattle.ff_net.specs.Tree.{Tree, Trees, Leaf, Pipe, Comb, Farm, OFarm, A2a, Wrap, none, more}
 use Rattle.ff_net.proofs.Kept.{both-false}
 use Rattle.ff_mean.specs.Gathering.{HasRunRounds}
-use Rattle.ff_mean.specs.Runs.{nodes_in, nodes_through}
-use Rattle.ff_mean.proofs.Lines.{is_pipeline, pipeline-opened, pipeline_rejected-opened}
+use Rattle.ff_net.specs.Nodes.{nodes_in, nodes_through}
+use Rattle.ff_mean.proofs.Pipelines.{is_pipeline, pipeline-opened, pipeline_rejected-opened}
 use Rattle.ff_mean.proofs.RoundLaws.{HasRunRounds-≡}
 
 module _ {N : Type 0} (b : Behaviour N) where

@@ -1,4 +1,3 @@
 pub mod Gathering
-pub mod Turning
 pub mod Rounds
 pub mod Runs

@@ -1,10 +1,11 @@
--- What a run of a network on one thread answers, and the line of nodes that a network without feedback is.
+-- What a run of a network on one thread answers, and the pipeline of nodes that a network without feedback is.
 use Rattle.std.specs.Prelude.{◌≡◌, ℕ, Bool, true, false, List, [], ◌∷◌, ◌++◌}
 use Rattle.ff_rec.specs.Lines.{Rec}
 use Rattle.ff_rec.specs.Weights.{Same}
 use Rattle.ff_node.specs.Behaviour.{Behaviour, pipeline, pipeline_rejected}
 use Rattle.ff_net.specs.Forms.{has_wrap}
-use Rattle.ff_net.specs.Tree.{Tree, Trees, Leaf, Pipe, Comb, Farm, OFarm, A2a, Wrap, none, more}
+use Rattle.ff_net.specs.Nodes.{nodes_in}
+use Rattle.ff_net.specs.Tree.{Tree}
 use Rattle.ff_net.specs.Meaning.{mean, Fine, mean_rejected, mean_rejected_count}
 use Rattle.ff_mean.specs.declared.outcome.Outcome.{Outcome}
 use Rattle.ff_mean.specs.declared.outcome.Outcome.TheVariants.{Done, Over}
@@ -26,27 +27,12 @@ abbrev pub Answered : {N : Type 0} → Behaviour N → ℕ → Bool → Tree N �
 Answered b m keep t xs (Done sent rejected kept) = IsMeant b m keep t xs sent rejected kept
 Answered b m keep t xs Over = Fine b m t xs → ⊥
 
-abbrev mutual
-  -- the nodes of a network without feedback, one behind another: workers and sets of copies count as one node
-  pub nodes_in : {N : Type 0} → Tree N → List N
-  nodes_in (Leaf o) = o ∷ []
-  nodes_in (Pipe ts) = nodes_through ts
-  nodes_in (Comb ts) = nodes_through ts
-  nodes_in (Farm n s w) = nodes_in w
-  nodes_in (OFarm n s w) = nodes_in w
-  nodes_in (A2a n l r m t) = nodes_in l ++ nodes_in t
-  nodes_in (Wrap n w p) = nodes_in w
-
-  pub nodes_through : {N : Type 0} → Trees N → List N
-  nodes_through none = []
-  nodes_through (more t ts) = nodes_in t ++ nodes_through ts
-
 -- a network means its nodes one behind another, and is never over a limit
-pub record IsLine {N : Type 0} (b : Behaviour N) (t : Tree N) : Type 0 where
+pub record IsPipeline {N : Type 0} (b : Behaviour N) (t : Tree N) : Type 0 where
   pub mean : (m : ℕ) (xs : List Rec) → mean b m t xs ≡ pipeline b (nodes_in t) xs
   pub rejected : (m : ℕ) (xs : List Rec) → mean_rejected b m t xs ≡ pipeline_rejected b (nodes_in t) xs
   pub fine : (m : ℕ) (xs : List Rec) → Fine b m t xs
 
 -- every network without feedback does
-abbrev pub LinesWithoutFeedback : {N : Type 0} → Behaviour N → Type 0
-LinesWithoutFeedback {N} b = (t : Tree N) → has_wrap t ≡ false → IsLine b t
+abbrev pub PipelinesWithoutFeedback : {N : Type 0} → Behaviour N → Type 0
+PipelinesWithoutFeedback {N} b = (t : Tree N) → has_wrap t ≡ false → IsPipeline b t

@@ -2,17 +2,16 @@
 #![tactic(auto)]
 
 pub mod laws;
-mod pipeline;
 mod network;
-mod nodes;
 mod outcome;
 mod part;
+mod pipeline;
 mod rounds;
 mod single;
 mod tasks;
 
+pub use ff_node::Records;
 pub use network::run_one;
-pub use nodes::nodes_of;
 pub use outcome::Outcome;
 
 #[cfg(test)]

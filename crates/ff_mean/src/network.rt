@@ -1,6 +1,5 @@
 // A network over a list of records.
 ghost use Rattle.std.specs.Prelude.{◌≡◌, [], IfOk};
-ghost use Rattle.ff_node.specs.Sends.{nothing_sent};
 ghost use Rattle.ff_net.specs.Good.{Good, WrapsOnTop};
 ghost use Rattle.ff_net.specs.Tree.{tree_of};
 ghost use Rattle.ff_mean.specs.Gathering.{HasRunNet};
@@ -26,25 +25,15 @@ pub fn run_one<N: Node>(
     ensures { IfOk result (λ outcome. Answered N.does limit keep (tree_of checked.now.net) input outcome) }
 {
     checked_networks_are_good(checked);
-    let mut out = no_sends(alloc, keep);
+    let mut out = Sends::new(alloc, keep);
     let Some(sent) = run_net(alloc, checked.net(), limit, input, &mut out)? else {
         return Ok(Outcome::Over);
     };
     Ok(Outcome::Done {
         sent,
         rejected: out.rejects(),
-        kept: take_rejects(alloc, &mut out)?,
+        kept: out.take_kept(),
     })
-}
-
-fn no_sends(alloc: Global, keep: bool) -> Sends
-    ensures { result ≡ nothing_sent keep }
-{
-    if keep {
-        Sends::keeping(alloc)
-    } else {
-        Sends::counting(alloc)
-    }
 }
 
 // What a network gives, or `None` where a wrap is over its limit. What it rejects is added to `out`.
@@ -64,15 +53,4 @@ fn run_net<N: Node>(
         return run_parts(alloc, parts, limit, input, out);
     }
     run_part(alloc, net, limit, input, out)
-}
-
-// The rejects that are kept, which are taken out.
-fn take_rejects(alloc: Global, out: &mut Sends) -> Result<Records, NoMemory>
-    ensures { IfOk result (λ kept. kept ≡ out.old.kept) }
-{
-    let mut kept = Records::new(alloc);
-    while let Some(r) = out.take_reject() {
-        kept.push(r)?;
-    }
-    Ok(kept)
 }

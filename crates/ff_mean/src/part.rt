@@ -8,7 +8,6 @@ ghost use Rattle.ff_net.specs.Tree.{tree_of, trees_of};
 ghost use Rattle.ff_mean.specs.Gathering.{HasRunNet, HasRunParts, HasRunRounds};
 
 use crate::pipeline::run_pipeline;
-use crate::nodes::nodes_of;
 use crate::rounds::run_rounds;
 use ff_net::{Net, Test};
 use ff_node::{Comb, Node, Records, Sends};
@@ -39,7 +38,8 @@ pub(crate) fn run_parts<N: Node>(
     Ok(Some(records))
 }
 
-/// The same of one part: a wrap, or a network without feedback.
+/// What one part gives, a wrap or a network without feedback, or `None` where the wrap is over its limit. What it rejects
+/// is added to `out`.
 pub(crate) fn run_part<N: Node>(
     alloc: Global,
     part: &Net<N>,
@@ -55,7 +55,7 @@ pub(crate) fn run_part<N: Node>(
     if let Net::Wrap { worker, test, .. } = part {
         return run_wrap(alloc, worker, test, limit, input, out);
     }
-    Ok(Some(run_pipeline(alloc, nodes_of(alloc, part)?, input, out)?))
+    Ok(Some(run_pipeline(part.nodes(alloc)?, input, out)?))
 }
 
 // A wrap of a Plain node, or of several that run as one.
@@ -76,6 +76,6 @@ fn run_wrap<N: Node>(
     if let Net::Leaf(node) = worker {
         return run_rounds(alloc, node.copy()?, test, limit, input, out);
     }
-    let comb = Comb::new(nodes_of(alloc, worker)?);
+    let comb = Comb::new(worker.nodes(alloc)?);
     run_rounds(alloc, comb, test, limit, input, out)
 }

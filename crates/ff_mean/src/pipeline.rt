@@ -6,11 +6,9 @@ ghost use Rattle.ff_node.specs.Sends.{add};
 use crate::single::run_node;
 use ff_node::{Node, Records, Sends};
 use ff_rec::NoMemory;
-use std::alloc::Global;
 
 /// What nodes send one behind another, each fed with all that the one before it sends. What they reject is added to `out`.
 pub(crate) fn run_pipeline<N: Node>(
-    alloc: Global,
     nodes: Vec<N>,
     input: Records,
     out: &mut Sends,
@@ -21,7 +19,7 @@ pub(crate) fn run_pipeline<N: Node>(
 {
     let mut records = input;
     for node in nodes {
-        records = run_node(alloc, node, records, out)?;
+        records = run_node(node, records, out)?;
     }
     Ok(records)
 }

@@ -5,11 +5,9 @@ ghost use Rattle.ff_node.specs.Sends.{add};
 
 use ff_node::{Next, Node, Records, Sends};
 use ff_rec::NoMemory;
-use std::alloc::Global;
 
 /// What a node sends for these records. What it rejects is added to `out`.
 pub(crate) fn run_node<N: Node>(
-    alloc: Global,
     mut runner: N,
     input: Records,
     out: &mut Sends,
@@ -22,7 +20,7 @@ pub(crate) fn run_node<N: Node>(
     feed(&mut runner, input, out)?;
     runner.eos_notify(out)?;
     runner.svc_end();
-    take_sends(alloc, out)
+    out.take_sends()
 }
 
 // Hands these records to a node, up to the first that ends it.
@@ -37,16 +35,4 @@ fn feed<N: Node>(runner: &mut N, mut input: Records, out: &mut Sends) -> Result<
         }
     }
     Ok(())
-}
-
-// All that was sent, which is taken out.
-fn take_sends(alloc: Global, out: &mut Sends) -> Result<Records, NoMemory>
-    ensures sent { IfOk result (λ sent. sent ≡ out.old.sends) }
-    ensures left { OnOk result (out.new ≡ record out.old { sends = [] }) }
-{
-    let mut sent = Records::new(alloc);
-    while let Some(r) = out.take_first() {
-        sent.push(r)?;
-    }
-    Ok(sent)
 }

@@ -1,7 +1,7 @@
 // What no clause says: that memory is there, so that each call does its work.
 mod turning;
 
-use crate::{Outcome, nodes_of, run_one};
+use crate::{Outcome, run_one};
 use ff_net::{Net, Route, Test, Version, check};
 use ff_node::{Cmp, Records};
 use ff_rec::{Field, Record};
@@ -127,7 +127,7 @@ fn a_wrap_of_several_nodes(rt: HostRuntime) -> Result<(), Fail> {
 }
 
 #[test]
-fn the_nodes_of_an_all_to_all(rt: HostRuntime) -> Result<(), Fail> {
+fn an_all_to_all(rt: HostRuntime) -> Result<(), Fail> {
     let net = Net::A2a {
         left: 3,
         left_node: Box::new(rt.alloc(), turn(&rt, 9, b"5")?)?,
@@ -135,11 +135,6 @@ fn the_nodes_of_an_all_to_all(rt: HostRuntime) -> Result<(), Fail> {
         right: 4,
         right_node: Box::new(rt.alloc(), turn(&rt, 5, b"3")?)?,
     };
-    let nodes = nodes_of(rt.alloc(), &net)?;
-    assert_eq!(rt; nodes.len(), 2);
-    assert_eq!(rt; nodes[0].from, is(9));
-    assert_eq!(rt; nodes[1].from, is(5));
-
     let (sent, rejected, _) = run(&rt, net, 0, false, two(&rt, b"9", b"1")?)?.ok_or("over")?;
     assert!(rt; are(&sent, &[b"3"]));
     assert_eq!(rt; rejected, 1);

@@ -8,7 +8,8 @@ use Rattle.ff_net.specs.declared.spot.Role.TheVariants.{CombPart, OFarmWorker, L
 use Rattle.ff_net.specs.Tree.{Tree, Trees, Leaf, Pipe, Comb, Farm, OFarm, A2a, Wrap, none, more}
 use Rattle.ff_net.specs.Counts.{count, units, edges}
 use Rattle.ff_net.specs.Places.{child, as_role, part_role, farm_worker, past, all_in, all_piped, whole}
-use Rattle.ff_net.specs.RuleTests.{is_off, is_pipeline, all_plain, most_units}
+use Rattle.ff_net.specs.RuleTests.{is_off, is_pipeline, all_plain}
+use Rattle.ff_net.specs.Limits.{most_units}
 use Rattle.ff_net.specs.Good.{Good, GoodParts, IsWithin}
 use Rattle.ff_net.proofs.FirstFault.{shallow_whole}
 use Rattle.ff_net.proofs.Kept.{not-false, and-both, or-false, Kept, kept_front, kept_back, kept_here, kept_inner}

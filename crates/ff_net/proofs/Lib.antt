@@ -1,4 +1,5 @@
 pub mod CountLaws
+pub mod NodeLists
 pub mod Search
 pub mod FirstFault
 pub mod Kept

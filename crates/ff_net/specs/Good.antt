@@ -7,12 +7,13 @@ use Rattle.ff_net.specs.declared.net.Route.TheVariants.{By}
 use Rattle.ff_net.specs.Tree.{Tree, Trees, Leaf, Pipe, Comb, Farm, OFarm, A2a, Wrap, none, more}
 use Rattle.ff_net.specs.Counts.{count, depth, units, edges}
 use Rattle.ff_net.specs.Forms.{is_ordered, has_wrap}
-use Rattle.ff_net.specs.RuleTests.{is_leaf, is_node, is_pipeline, is_wrap, most_units}
+use Rattle.ff_net.specs.RuleTests.{is_leaf, is_node, is_pipeline, is_wrap}
+use Rattle.ff_net.specs.Limits.{most_depth, most_parts, most_units, most_edges}
 use Rattle.ff_net.specs.declared.net.Version.{Version}
 
 -- a number of parts, of workers or of a set
 abbrev pub InRange : ℕ → Type 0
-InRange n = (1 ≤ n) × (n ≤ 64)
+InRange n = (1 ≤ n) × (n ≤ most_parts)
 
 abbrev mutual
   -- all leaves are Plain
@@ -90,6 +91,6 @@ WrapsOnTop t = has_wrap t ≡ false
 
 -- a network is within the limits of its version
 pub record IsWithin {N : Type 0} (v : Version) (t : Tree N) : Type 0 where
-  pub depth : depth t ≤ 16
+  pub depth : depth t ≤ most_depth
   pub units : units t ≤ most_units v
-  pub edges : edges t ≤ 2048
+  pub edges : edges t ≤ most_edges

@@ -1,6 +1,8 @@
 pub mod Tree
 pub mod Forms
 pub mod Counts
+pub mod Limits
+pub mod Nodes
 pub mod Levels
 pub mod Meaning
 pub mod Places
@@ -8,8 +10,8 @@ pub mod RuleTests
 pub mod Rules
 pub mod Room
 pub mod Verdict
-pub mod Silent
-pub mod MeaningLaws
 pub mod Good
-pub mod LevelLaws
 pub mod Versions
+-- lemmas: nothing to trust
+pub mod MeaningLaws
+pub mod LevelLaws

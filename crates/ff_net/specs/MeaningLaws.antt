@@ -25,7 +25,7 @@ module _ {N : Type 0} (b : Behaviour N) (m : ℕ) where
   fine_through-leaves (o ∷ os) xs = (tt, fine_through-leaves os (node b o xs))
 
 -- a pipe or a comb of nodes is these nodes one behind another, and never over a limit
-pub record LineOfNodes {N : Type 0} (b : Behaviour N) : Type 0 where
+pub record PipelineOfNodes {N : Type 0} (b : Behaviour N) : Type 0 where
   pub pipe : (m : ℕ) (os : List N) (xs : List Rec) → mean b m (Pipe (leaves os)) xs ≡ pipeline b os xs
   pub comb : (m : ℕ) (os : List N) (xs : List Rec) → mean b m (Comb (leaves os)) xs ≡ pipeline b os xs
   pub rejected_in_pipe : (m : ℕ) (os : List N) (xs : List Rec) → mean_rejected b m (Pipe (leaves os)) xs ≡ pipeline_rejected b os xs
@@ -33,8 +33,8 @@ pub record LineOfNodes {N : Type 0} (b : Behaviour N) : Type 0 where
   pub fine_pipe : (m : ℕ) (os : List N) (xs : List Rec) → Fine b m (Pipe (leaves os)) xs
   pub fine_comb : (m : ℕ) (os : List N) (xs : List Rec) → Fine b m (Comb (leaves os)) xs
 
-pub line_of_nodes : {N : Type 0} (b : Behaviour N) → LineOfNodes b
-line_of_nodes b = record {
+pub pipeline_of_nodes : {N : Type 0} (b : Behaviour N) → PipelineOfNodes b
+pipeline_of_nodes b = record {
   pipe = mean_through-leaves b;
   comb = mean_through-leaves b;
   rejected_in_pipe = mean_rejected_through-leaves b;

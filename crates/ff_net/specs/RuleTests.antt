@@ -6,15 +6,15 @@ use Rattle.ff_node.specs.Behaviour.{Behaviour}
 use Rattle.ff_net.specs.declared.net.Route.{Route}
 use Rattle.ff_net.specs.declared.net.Route.TheVariants.{By}
 use Rattle.ff_net.specs.declared.net.Version.{Version}
-use Rattle.ff_net.specs.declared.net.Version.TheVariants.{One, Two}
 use Rattle.ff_net.specs.declared.spot.Role.{Role}
 use Rattle.ff_net.specs.declared.spot.Role.TheVariants.{Whole, TopPart, CombPart, OFarmWorker, LeftSet, RightSet, WrapWorker}
 use Rattle.ff_net.specs.Tree.{Tree, Trees, Leaf, Pipe, Comb, Farm, OFarm, A2a, Wrap, none, more}
 use Rattle.ff_net.specs.Counts.{count, units, edges}
+use Rattle.ff_net.specs.Limits.{most_depth, most_parts, most_units, most_edges}
 
--- whether a number of parts, of workers or of a field isn't from 1 to 64
+-- whether a number of parts, of workers or of a field isn't from 1 to the most
 abbrev pub is_off : ℕ → Bool
-is_off n = nat_eq n 0 || nat_lt 64 n
+is_off n = nat_eq n 0 || nat_lt most_parts n
 
 -- one node
 abbrev pub is_leaf : {N : Type 0} → Tree N → Bool
@@ -101,28 +101,23 @@ misses r None = false
 misses (By g) (Some f) = not (nat_eq g f)
 misses _ (Some f) = true
 
--- a place with 16 child numbers is that of a network at depth 17
+-- a place with as many child numbers as a network may be deep is that of one that is too deep
 abbrev pub is_too_deep : List ℕ → Bool
-is_too_deep place = nat_eq (length place) 16
+is_too_deep place = nat_eq (length place) most_depth
 
--- a pipe or comb without parts or with more than 64
+-- a pipe or comb without parts or with too many
 abbrev pub has_bad_parts : {N : Type 0} → Tree N → Bool
 has_bad_parts (Pipe ts) = is_off (count ts)
 has_bad_parts (Comb ts) = is_off (count ts)
 has_bad_parts _ = false
 
--- a form with no workers or with more than 64, or with such a set
+-- a form with no workers or with too many, or with such a set
 abbrev pub has_bad_workers : {N : Type 0} → Tree N → Bool
 has_bad_workers (Farm n s w) = is_off n
 has_bad_workers (OFarm n s w) = is_off n
 has_bad_workers (A2a n l r m t) = is_off n || is_off m
 has_bad_workers (Wrap n w p) = is_off n
 has_bad_workers _ = false
-
--- how many units a plan may have
-abbrev pub most_units : Version → ℕ
-most_units One = 128
-most_units Two = 256
 
 -- the whole network, if its plan has too many units
 abbrev pub has_many_units : {N : Type 0} → Version → Role → Tree N → Bool
@@ -131,7 +126,7 @@ has_many_units v _ t = false
 
 -- the whole network, if its plan has too many edges
 abbrev pub has_many_edges : {N : Type 0} → Role → Tree N → Bool
-has_many_edges Whole t = nat_lt 2048 (edges t)
+has_many_edges Whole t = nat_lt most_edges (edges t)
 has_many_edges _ t = false
 
 -- a part of a comb that isn't a leaf
@@ -174,7 +169,7 @@ is_bad_wrap Whole t = false
 is_bad_wrap TopPart t = false
 is_bad_wrap _ t = is_wrap t
 
--- a route or a test of a field that isn't from 1 to 64
+-- a route or a test of a field that isn't from 1 to the most
 abbrev pub has_bad_field : {N : Type 0} → Tree N → Bool
 has_bad_field (A2a n l (By f) m t) = is_off f
 has_bad_field (Wrap n w p) = is_off p.field

@@ -38,7 +38,7 @@ pub(crate) fn first_fault<N: Node>(net: &Net<N>, version: Version) -> Option<Rul
     fault_among(&LATER_RULES, net, version)
 }
 
-// The same by these rules.
+// The first fault by these rules.
 fn fault_among<N: Node>(rules: &[Rule], net: &Net<N>, version: Version) -> Option<RuleFault>
     requires { depth (tree_of net.now) ≤ 16 }
     ensures { named result ≡ first (faults_of N.does version (tree_of net.now) rules.now) }

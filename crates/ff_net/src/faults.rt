@@ -2,14 +2,14 @@
 ghost use Rattle.std.specs.Prelude.{◌≡◌};
 ghost use Rattle.ff_net.specs.Tree.{tree_of};
 ghost use Rattle.ff_net.specs.Places.{seen};
-ghost use Rattle.ff_net.specs.RuleTests.{is_off, misses, has_bad_parts, has_bad_workers, most_units, has_many_units, has_many_edges, is_bad_comb_part, is_bad_in_farm, is_bad_ofarm_worker, is_bad_set, is_bad_behind, is_bad_key, is_bad_wrap_worker, is_bad_wrap, has_bad_field};
+ghost use Rattle.ff_net.specs.RuleTests.{is_off, misses, has_bad_parts, has_bad_workers, has_many_units, has_many_edges, is_bad_comb_part, is_bad_in_farm, is_bad_ofarm_worker, is_bad_set, is_bad_behind, is_bad_key, is_bad_wrap_worker, is_bad_wrap, has_bad_field};
 ghost use Rattle.ff_net.specs.Rules.{fails};
 
 use crate::counts::{edges, units};
 use crate::leaves::{
-    all_plain, is_leaf, is_pipeline, is_ordered_leaf, is_plain_leaf, is_plain_node, leaf_key,
+    all_plain, is_leaf, is_ordered_leaf, is_pipeline, is_plain_leaf, is_plain_node, leaf_key,
 };
-use crate::path::MOST_DEPTH;
+use crate::limits::{MOST_DEPTH, MOST_EDGES, MOST_PARTS, most_units};
 use crate::rule::Rule;
 use crate::spot::{Role, Spot};
 use crate::{Net, Path, Route, Version};
@@ -43,11 +43,11 @@ pub(crate) fn fails<N: Node>(
     }
 }
 
-// A number of parts, of workers or of a field has to be from 1 to 64.
+// A number of workers, of copies or of a field has to be one of those that may be.
 fn is_off(n: u32) -> bool
     ensures { result ≡ is_off n }
 {
-    n == 0 || 64 < n
+    n == 0 || MOST_PARTS < n
 }
 
 #[tactic(auto, using(crate::proofs::CountLaws::counted_parts))]
@@ -55,7 +55,8 @@ fn has_bad_parts<N>(net: &Net<N>) -> bool
     ensures { result ≡ has_bad_parts (tree_of net.now) }
 {
     match net {
-        Net::Pipe(parts) | Net::Comb(parts) => parts.is_empty() || 64 < parts.len(),
+        Net::Pipe(parts) | Net::Comb(parts) => parts.is_empty()
+            || parts.len() > MOST_PARTS as usize,
         _ => false,
     }
 }
@@ -73,15 +74,6 @@ fn has_bad_workers<N>(net: &Net<N>) -> bool
     }
 }
 
-fn most_units(version: Version) -> u64
-    ensures { result ≡ most_units version }
-{
-    match version {
-        Version::One => 128,
-        Version::Two => 256,
-    }
-}
-
 fn has_many_units<N>(version: Version, role: Role, net: &Net<N>) -> bool
     ensures { result ≡ has_many_units version role (tree_of net.now) }
 {
@@ -95,7 +87,7 @@ fn has_many_edges<N>(role: Role, net: &Net<N>) -> bool
     ensures { result ≡ has_many_edges role (tree_of net.now) }
 {
     match role {
-        Role::Whole => 2048 < edges(net),
+        Role::Whole => MOST_EDGES < edges(net),
         _ => false,
     }
 }

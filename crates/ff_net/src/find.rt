@@ -20,7 +20,7 @@ pub(crate) fn first_place<N: Node>(rule: Rule, version: Version, net: &Net<N>) -
     find(rule, version, Spot::whole(), &Path::top(), net)
 }
 
-// The same of a network that stands there, at this place.
+// The first place in a network that stands there, at this place.
 #[cycle(find)]
 #[tactic(auto, using(crate::proofs::Search::search_steps))]
 fn find<N: Node>(
@@ -74,7 +74,7 @@ fn find<N: Node>(
     }
 }
 
-// The same of the parts of a pipe.
+// The first place in the parts of a pipe.
 #[cycle(find)]
 #[tactic(auto, using(crate::proofs::Search::search_steps))]
 fn find_piped<N: Node>(
@@ -97,7 +97,7 @@ fn find_piped<N: Node>(
     None
 }
 
-// The same of the parts of a comb.
+// The first place in the parts of a comb.
 #[cycle(find)]
 #[tactic(auto, using(crate::proofs::Search::search_steps))]
 fn find_combed<N: Node>(

@@ -1,7 +1,7 @@
 // What holds of the words of this crate's contracts, whatever the call.
 ghost use Rattle.ff_net.specs.Good.{Good, IsWithin, WrapsOnTop};
 ghost use Rattle.ff_net.specs.LevelLaws.{RoundsEnd};
-ghost use Rattle.ff_net.specs.MeaningLaws.{LineOfNodes};
+ghost use Rattle.ff_net.specs.MeaningLaws.{PipelineOfNodes};
 ghost use Rattle.ff_net.specs.Tree.{tree_of};
 
 use crate::Checked;
@@ -9,7 +9,7 @@ use ff_node::Node;
 
 /// A pipe or a comb of nodes means these nodes one behind another.
 pub fn pipes_of_nodes_are_pipelines<N: Node>(_node: &N)
-    ensures { LineOfNodes N.does }
+    ensures { PipelineOfNodes N.does }
 {}
 
 /// What a network that keeps all rules gives to those that reason about it.

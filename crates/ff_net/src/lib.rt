@@ -2,14 +2,18 @@
 #![tactic(auto)]
 
 mod checked;
+mod copy;
 mod counts;
+mod depth;
 mod fault;
 mod faults;
 mod find;
 mod forms;
 pub mod laws;
 mod leaves;
+mod limits;
 mod net;
+mod nodes;
 mod path;
 mod rule;
 mod spot;

@@ -1,15 +1,13 @@
 // The place of a network in a network.
 ghost use Rattle.std.specs.Prelude.{◌≡◌, ◌<◌, ◌≤◌, ◌∷◌, ◌++◌, [], length, slice_index};
 
+use crate::limits::MOST_DEPTH;
 use std::marker::Model;
-
-/// How deep a network may be.
-pub(crate) const MOST_DEPTH: usize = 16;
 
 /// The place of a network in a network: the child numbers on the way down to it, each counted from 1.
 #[derive(Debug, Drop)]
 pub struct Path {
-    children: [usize; 16],
+    children: [usize; MOST_DEPTH],
     len: usize,
 }
 
@@ -29,7 +27,7 @@ impl Path {
         ensures { result ≡ [] }
     {
         Path {
-            children: [0; 16],
+            children: [0; MOST_DEPTH],
             len: 0,
         }
     }
@@ -61,7 +59,7 @@ impl Path {
         children[k]
     }
 
-    /// The same place.
+    /// A copy, which takes no memory.
     pub(crate) fn same(&self) -> Path
         ensures { result ≡ self.now }
     {

@@ -1,9 +1,7 @@
 // Networks that break each rule, and networks at the limits.
-mod silent;
-
 use crate::{Checked, Net, Path, Route, RuleFault, Sched, Test, Version, check};
 use ff_node::{Class, Cmp};
-use silent::Silent;
+use ff_test_nodes::Silent;
 use std::alloc::{AllocError, Global};
 use std::test::Fail;
 
@@ -262,6 +260,27 @@ fn what_a_checked_network_tells(rt: HostRuntime) -> Result<(), Fail> {
 
     let round = checked(pipe(alloc, wrap(alloc, 1, id(), 1)?, id())?).ok_or("refused")?;
     assert!(rt; round.has_wrap() && !round.is_ordered() && !round.sweeps());
+    Ok(())
+}
+
+#[test]
+fn what_a_network_holds(rt: HostRuntime) -> Result<(), Fail> {
+    let alloc = rt.alloc();
+    let sets = a2a(
+        alloc,
+        3,
+        leaf(Class::Keyed(1)),
+        Route::Rr,
+        4,
+        row(alloc, 2)?,
+    )?;
+    let net = pipe(alloc, sets, farm(alloc, 2, leaf(Class::Ordered))?)?;
+    assert_eq!(rt; net.depth(), 4);
+    let nodes = net.copy(alloc)?.nodes(alloc)?;
+    assert_eq!(rt; nodes.len(), 4);
+    assert_eq!(rt; nodes[0].class, Class::Keyed(1));
+    assert_eq!(rt; nodes[2].class, Class::Plain);
+    assert_eq!(rt; nodes[3].class, Class::Ordered);
     Ok(())
 }
 

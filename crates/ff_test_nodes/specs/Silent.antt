@@ -1,4 +1,4 @@
--- A node that sends and rejects nothing, of any class: what the tests put into networks.
+-- A node that sends and rejects nothing, of any class.
 use Rattle.std.specs.Prelude.{◌≡◌, ℕ, false, List, [], ◌∷◌, ◌++◌, refl}
 use Rattle.std.specs.List.{flat_map}
 use Rattle.std.proofs.Common.{sym, ap, ◌∙◌}

@@ -2,13 +2,14 @@
 use ff_node::{Class, Next, Node, Sends};
 use ff_rec::{NoMemory, Record};
 
+/// A node that sends and rejects nothing, of this class.
 #[derive(Drop)]
 pub struct Silent {
     pub class: Class,
 }
 
 impl Node for Silent {
-    ghost use Rattle.ff_net.specs.Silent.{silent, silent_law, silent_kind};
+    ghost use Rattle.ff_test_nodes.specs.Silent.{silent, silent_law, silent_kind};
 
     ghost does = { silent (λ s. s.class) };
 

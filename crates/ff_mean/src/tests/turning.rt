@@ -10,13 +10,25 @@ pub struct Turning {
 }
 
 impl Node for Turning {
-    ghost use Rattle.ff_mean.specs.Turning.{turning, turning_law, turning_kind};
+    ghost use Rattle.std.specs.Prelude.{false, [], ◌∷◌, if◌then◌else◌, refl};
+    ghost use Rattle.ff_node.specs.Stateless.{KeepsKind-stateless, IsPlainNode-stateless};
+    ghost use Rattle.ff_node.specs.declared.class.Class.TheVariants.{Plain};
+    ghost use Rattle.ff_net.specs.Levels.{meets};
 
-    ghost does = { turning (λ s. s.from) (λ s. s.to) };
+    ghost does = { record {
+      class = λ s. Plain;
+      opening = λ s. s;
+      sends = λ s x. if meets s.from x then s.to ∷ [] else [];
+      rejects = λ s x. if meets s.from x then [] else x ∷ [];
+      next = λ s x. s;
+      ends = λ s x. false;
+      last = λ s. [];
+      last_rejects = λ s. [];
+    } };
 
-    ghost keeps_kind = { turning_kind (λ s. s.from) (λ s. s.to) };
+    ghost keeps_kind = { KeepsKind-stateless _ (record { opening = λ s. refl; next = λ s x. refl; ends = λ s x. refl; last = λ s. refl; last_rejects = λ s. refl }) };
 
-    ghost class_law = { λ o. turning_law (λ s. s.from) (λ s. s.to) o };
+    ghost class_law = { λ o. IsPlainNode-stateless _ (record { opening = λ s. refl; next = λ s x. refl; ends = λ s x. refl; last = λ s. refl; last_rejects = λ s. refl }) o };
 
     fn class(&self) -> Class {
         Class::Plain

@@ -1,4 +1,4 @@
-use Rattle.ff_mean.proofs.Lines.{is_pipeline}
+use Rattle.ff_mean.proofs.Pipelines.{is_pipeline}
 use Rattle.ff_mean.proofs.laws.networks_without_feedback_are_pipelines.Goals as goal
 
 pub returns : goal.returns

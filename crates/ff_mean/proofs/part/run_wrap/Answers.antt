@@ -1,4 +1,4 @@
--- One node means itself, and several mean their line.
+-- One node means itself, and several mean their pipeline.
 use Rattle.std.proofs.Common.{ap}
 use Rattle.ff_node.specs.Behaviour.{node, node_rejected}
 use Rattle.ff_node.specs.Comb.{comb_node}
@@ -23,12 +23,12 @@ returns-in-Leaf g c =
 
 pub new-comb-requires : goal.new-comb-requires
 new-comb-requires g c =
-    let size = comb_size g.N.Node.does g.met.N.Node.keeps_kind (tree_of c.args.worker.now) c.in_ok-nodes_of.field-0.items c.in_ok-nodes_of.ensures c.requires.plain c.requires.good in
+    let size = comb_size g.N.Node.does g.met.N.Node.keeps_kind (tree_of c.args.worker.now) c.in_ok-nodes.field-0.items c.in_ok-nodes.ensures c.requires.plain c.requires.good in
     record { some = size.0; few = size.1 }
 
 pub run_rounds-requires-2 : goal.run_rounds-requires-2
 run_rounds-requires-2 g c = record {
-  plain = comb_class g.N.Node.does g.met.N.Node.keeps_kind (tree_of c.args.worker.now) c.in_ok-nodes_of.field-0.items c.in_ok-nodes_of.ensures c.requires.plain c.requires.good
+  plain = comb_class g.N.Node.does g.met.N.Node.keeps_kind (tree_of c.args.worker.now) c.in_ok-nodes.field-0.items c.in_ok-nodes.ensures c.requires.plain c.requires.good
       c.new-comb.result c.new-comb.ensures;
   empty = c.requires.empty;
 }
@@ -42,6 +42,6 @@ returns g c =
     let p = c.args.test.now in
     IfOk-map (λ answer. HasRunRounds (node (comb_node b) ps) (node_rejected (comb_node b) ps) p m c.args.input c.args.out.now c.run_rounds-2.new.out answer)
     (λ answer. HasRunRounds (mean b m t) (mean_rejected b m t) p m c.args.input c.args.out.now c.run_rounds-2.new.out answer)
-    (λ answer ran. HasRunRounds-comb b g.met.N.Node.keeps_kind t c.in_ok-nodes_of.field-0.items c.in_ok-nodes_of.ensures c.requires.plain c.requires.good ps c.new-comb.ensures
+    (λ answer ran. HasRunRounds-comb b g.met.N.Node.keeps_kind t c.in_ok-nodes.field-0.items c.in_ok-nodes.ensures c.requires.plain c.requires.good ps c.new-comb.ensures
     m p c.args.input c.args.out.now c.run_rounds-2.new.out answer ran)
     c.run_rounds-2.result c.run_rounds-2.ensures

@@ -1,0 +1,84 @@
+// Copies of networks.
+ghost use Rattle.std.specs.Prelude.{◌≡◌, IfOk};
+ghost use Rattle.ff_net.specs.Nodes.{opened, all_opened};
+ghost use Rattle.ff_net.specs.Tree.{tree_of, trees_of};
+
+use crate::Net;
+use ff_node::Node;
+use ff_rec::NoMemory;
+use std::alloc::Global;
+
+impl<N: Node> Net<N> {
+    /// A copy of it, each of its nodes before its first record.
+    pub fn copy(&self, alloc: Global) -> Result<Net<N>, NoMemory>
+        ensures { IfOk result (λ copy. tree_of copy ≡ opened N.does (tree_of self.now)) }
+    {
+        copied(alloc, self)
+    }
+}
+
+// The copy of a network.
+#[cycle(copies)]
+#[tactic(auto, using(crate::specs::Tree::tree_forms))]
+fn copied<N: Node>(alloc: Global, net: &Net<N>) -> Result<Net<N>, NoMemory>
+    ensures { IfOk result (λ copy. tree_of copy ≡ opened N.does (tree_of net.now)) }
+{
+    match net {
+        Net::Leaf(node) => Ok(Net::Leaf(node.copy()?)),
+        Net::Pipe(parts) => Ok(Net::Pipe(all_copied(alloc, parts)?)),
+        Net::Comb(parts) => Ok(Net::Comb(all_copied(alloc, parts)?)),
+        Net::Farm {
+            workers,
+            sched,
+            worker,
+        } => Ok(Net::Farm {
+            workers: *workers,
+            sched: *sched,
+            worker: Box::new(alloc, copied(alloc, worker)?)?,
+        }),
+        Net::OFarm {
+            workers,
+            sched,
+            worker,
+        } => Ok(Net::OFarm {
+            workers: *workers,
+            sched: *sched,
+            worker: Box::new(alloc, copied(alloc, worker)?)?,
+        }),
+        Net::A2a {
+            left,
+            left_node,
+            route,
+            right,
+            right_node,
+        } => Ok(Net::A2a {
+            left: *left,
+            left_node: Box::new(alloc, copied(alloc, left_node)?)?,
+            route: *route,
+            right: *right,
+            right_node: Box::new(alloc, copied(alloc, right_node)?)?,
+        }),
+        Net::Wrap {
+            workers,
+            worker,
+            test,
+        } => Ok(Net::Wrap {
+            workers: *workers,
+            worker: Box::new(alloc, copied(alloc, worker)?)?,
+            test: *test,
+        }),
+    }
+}
+
+// The copies of several.
+#[cycle(copies)]
+#[tactic(auto, using(crate::specs::Tree::tree_forms))]
+fn all_copied<N: Node>(alloc: Global, parts: &[Net<N>]) -> Result<Vec<Net<N>>, NoMemory>
+    ensures { IfOk result (λ copies. trees_of copies.items ≡ all_opened N.does (trees_of parts.now)) }
+{
+    let mut copies = Vec::new(alloc);
+    for part in parts {
+        copies.push(copied(alloc, part)?)?;
+    }
+    Ok(copies)
+}

@@ -1,0 +1,9 @@
+//! Nodes that the tests of other crates put into networks; no program uses them.
+#![tactic(auto)]
+
+mod silent;
+
+pub use silent::Silent;
+
+#[cfg(test)]
+mod tests;
