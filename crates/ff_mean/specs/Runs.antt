@@ -4,16 +4,12 @@ use Rattle.ff_rec.specs.Lines.{Rec}
 use Rattle.ff_rec.specs.Weights.{Same}
 use Rattle.ff_node.specs.Behaviour.{Behaviour, pipeline, pipeline_rejected}
 use Rattle.ff_net.specs.Forms.{has_wrap}
+pub use Rattle.ff_net.specs.Kept.{AreKept}
 use Rattle.ff_net.specs.Nodes.{nodes_in}
 use Rattle.ff_net.specs.Tree.{Tree}
 use Rattle.ff_net.specs.Meaning.{mean, Fine, mean_rejected, mean_rejected_count}
 use Rattle.ff_mean.specs.declared.outcome.Outcome.{Outcome}
 use Rattle.ff_mean.specs.declared.outcome.Outcome.TheVariants.{Done, Over}
-
--- the rejects that are handed over: where they are kept, each as often as the network loses it, and else none
-pub record AreKept (keep : Bool) (losses kept : List Rec) : Type 0 where
-  pub all : keep ≡ true → Same losses kept
-  pub none : keep ≡ false → kept ≡ []
 
 -- no wrap is over its limit, and all that the network means was gathered
 pub record IsMeant {N : Type 0} (b : Behaviour N) (m : ℕ) (keep : Bool) (t : Tree N) (xs ys : List Rec) (number : ℕ) (zs : List Rec) : Type 0 where

@@ -5,6 +5,7 @@ pub mod Limits
 pub mod Nodes
 pub mod Levels
 pub mod Meaning
+pub mod Kept
 pub mod Places
 pub mod RuleTests
 pub mod Rules

@@ -1,19 +1,20 @@
 -- What a description allows of its input, by its version.
-use Rattle.std.specs.Prelude.{ℕ, ◌^◌, Bool, List, Option}
+use Rattle.std.specs.Prelude.{ℕ, Bool, List, Option}
 use Rattle.ff_net.specs.declared.net.Version.{Version}
 use Rattle.ff_net.specs.declared.net.Version.TheVariants.{One, Two}
 use Rattle.ff_rec.specs.Limits.{limit, seen}
 use Rattle.ff_rec.specs.Lines.{Rec}
 use Rattle.ff_rec.specs.declared.fault.LineFault.{LineFault}
+use Rattle.ff_rec.specs.declared.limits.TheConstants.{LONGEST_LINE_ONE, LONGEST_LINE_TWO, LONGEST_INPUT}
 
 -- the most bytes of a line, its newline not counted
 abbrev pub line_bytes : Version → ℕ
-line_bytes One = 65536
-line_bytes Two = 1048576
+line_bytes One = LONGEST_LINE_ONE
+line_bytes Two = LONGEST_LINE_TWO
 
 -- the most bytes of an input
 abbrev pub input_bytes : ℕ
-input_bytes = 2 ^ 40
+input_bytes = LONGEST_INPUT
 
 -- the first limit that an input passes
 abbrev pub limit_by : Version → List ℕ → Option LineFault

@@ -67,17 +67,12 @@ impl<N: Node> Node for Comb<N> {
     }
 
     fn svc(&mut self, r: Record, out: &mut Sends) -> Result<Next, NoMemory> {
-        let before = out.take_queue()?;
-        out.send(r)?;
-        pass(&mut self.nodes, &mut self.ended, out)?;
-        out.put_before(before)?;
+        pass(&mut self.nodes, &mut self.ended, r, out)?;
         Ok(if self.ended[0] { Next::Eos } else { Next::GoOn })
     }
 
     fn eos_notify(&mut self, out: &mut Sends) -> Result<(), NoMemory> {
-        let before = out.take_queue()?;
-        finish(&mut self.nodes, &mut self.ended, out)?;
-        out.put_before(before)
+        finish(&mut self.nodes, &mut self.ended, out)
     }
 
     fn svc_end(&mut self) {

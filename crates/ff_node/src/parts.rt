@@ -1,10 +1,11 @@
 // Records on their way through the parts of a comb: what is sent by one part is given to the next.
-ghost use Rattle.std.specs.Prelude.{◌≡◌, ◌≤◌, map, length, OnOk};
-ghost use Rattle.ff_node.specs.Comb.{part, parts, part_after, through_after};
+ghost use Rattle.std.specs.Prelude.{◌≡◌, ◌≤◌, ◌∷◌, [], map, length, OnOk};
+ghost use Rattle.ff_node.specs.Comb.{part, parts, part_after, through_after, through, through_rejects, total, total_rejects};
 ghost use Rattle.ff_node.specs.Passing.{fed, fed_last, passed, passed_last};
+ghost use Rattle.ff_node.specs.Sends.{add};
 
 use crate::{Node, Sends, node_step};
-use ff_rec::NoMemory;
+use ff_rec::{NoMemory, Record};
 
 // The records in `out` to a part, which puts in their place what it sends; one that has ended drops them.
 fn feed<N: Node>(node: &mut N, ended: &mut bool, out: &mut Sends) -> Result<(), NoMemory>
@@ -17,7 +18,9 @@ fn feed<N: Node>(node: &mut N, ended: &mut bool, out: &mut Sends) -> Result<(), 
         let Some(r) = out.take_first() else {
             return Ok(());
         };
-        if !*ended {
+        if *ended {
+            drop(r);
+        } else {
             *ended = node_step(node, r, out)?.is_eos();
         }
     }
@@ -36,8 +39,58 @@ fn end<N: Node>(node: &mut N, ended: &mut bool, out: &mut Sends) -> Result<(), N
     Ok(())
 }
 
-/// The records in `out` through all parts: what comes out behind the last is in their place then.
+/// A record through all parts: what comes out behind the last is added to `out`. What was sent before stands aside
+/// meanwhile, if there is any.
 pub(crate) fn pass<N: Node>(
+    nodes: &mut [N],
+    ended: &mut [bool],
+    r: Record,
+    out: &mut Sends,
+) -> Result<(), NoMemory>
+    requires flags { length nodes.old ≤ length ended.old }
+    ensures kind { map N.does.opening nodes.new ≡ map N.does.opening nodes.old }
+    ensures state { OnOk result
+        (parts nodes.new ended.new ≡ through_after N.does (parts nodes.old ended.old) (r ∷ [])) }
+    ensures sends { OnOk result (out.new ≡ add out.old
+        (through N.does (parts nodes.old ended.old) (r ∷ []))
+        (through_rejects N.does (parts nodes.old ended.old) (r ∷ []))) }
+{
+    if out.len() == 0 {
+        out.send(r)?;
+        pass_all(nodes, ended, out)?;
+        return Ok(());
+    }
+    let before = out.take_queue()?;
+    out.send(r)?;
+    pass_all(nodes, ended, out)?;
+    out.put_before(before)?;
+    Ok(())
+}
+
+/// The end of all parts: what comes out behind the last is added to `out`.
+pub(crate) fn finish<N: Node>(
+    nodes: &mut [N],
+    ended: &mut [bool],
+    out: &mut Sends,
+) -> Result<(), NoMemory>
+    requires flags { length nodes.old ≤ length ended.old }
+    ensures kind { map N.does.opening nodes.new ≡ map N.does.opening nodes.old }
+    ensures sends { OnOk result (out.new ≡ add out.old
+        (total N.does (parts nodes.old ended.old) [])
+        (total_rejects N.does (parts nodes.old ended.old) [])) }
+{
+    if out.len() == 0 {
+        finish_all(nodes, ended, out)?;
+        return Ok(());
+    }
+    let before = out.take_queue()?;
+    finish_all(nodes, ended, out)?;
+    out.put_before(before)?;
+    Ok(())
+}
+
+// The records in `out` through all parts: what comes out behind the last is in their place then.
+fn pass_all<N: Node>(
     nodes: &mut [N],
     ended: &mut [bool],
     out: &mut Sends,
@@ -54,8 +107,8 @@ pub(crate) fn pass<N: Node>(
     Ok(())
 }
 
-/// With each part's end: its last records go through the parts behind it.
-pub(crate) fn finish<N: Node>(
+// With each part's end: its last records go through the parts behind it.
+fn finish_all<N: Node>(
     nodes: &mut [N],
     ended: &mut [bool],
     out: &mut Sends,

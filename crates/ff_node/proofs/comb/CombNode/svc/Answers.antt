@@ -8,12 +8,6 @@ returns-in_err-pass-clause-kind g c =
     written-kept b c.self.inside.nodes c.pass.new.nodes c.self.inside.ended c.pass.new.ended c.args.self.now
     (c.pass.ensures.kind ∙ ap (map b.opening) c.deref_mut.ensures.value) c.self.view_is
 
-pub returns-in_err-put_before-clause-kind : goal.returns-in_err-put_before-clause-kind
-returns-in_err-put_before-clause-kind g c =
-    let b = g.N.Node.does in
-    written-kept b c.self.inside.nodes c.pass.new.nodes c.self.inside.ended c.pass.new.ended c.args.self.now
-    (c.pass.ensures.kind ∙ ap (map b.opening) c.deref_mut.ensures.value) c.self.view_is
-
 pub returns-clause-kind : goal.returns-clause-kind
 returns-clause-kind g c =
     let b = g.N.Node.does in

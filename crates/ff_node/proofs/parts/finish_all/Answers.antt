@@ -1,6 +1,6 @@
 use Rattle.std.proofs.Common.{◌≡◌, ◌≤◌, ◌∙◌, length, sym, ap, refl, arith, false, slice_index_or}
 use Rattle.ff_node.proofs.PartsSteps.{map-set_same, passed_last-step, passed_last-done}
-use Rattle.ff_node.proofs.parts.finish.Goals as goal
+use Rattle.ff_node.proofs.parts.finish_all.Goals as goal
 
 pub returns-in_err-end-clause-kind : goal.returns-in_err-end-clause-kind
 returns-in_err-end-clause-kind g c =

@@ -1,7 +1,7 @@
 use Rattle.std.proofs.Common.{◌≡◌, ◌++◌, take, map, drop}
 use Rattle.ff_node.specs.Comb.{parts, through_after}
 use Rattle.ff_node.specs.Passing.{passed}
-use Rattle.ff_node.proofs.parts.pass.Given as goal
+use Rattle.ff_node.proofs.parts.pass_all.Given as goal
 
 -- what is still to come of the parts from here on completes the whole
 abbrev pub invariant-loop-i : goal.invariant-loop-i

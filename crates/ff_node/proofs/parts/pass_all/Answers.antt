@@ -1,7 +1,7 @@
 use Rattle.std.proofs.Common.{◌≡◌, ◌≤◌, ◌∙◌, length, sym, ap, refl, arith, false, slice_index_or}
 use Rattle.ff_node.specs.Sends.{Sent}
 use Rattle.ff_node.proofs.PartsSteps.{map-set_same, through_after-step, through_after-done, passed-step, passed-done}
-use Rattle.ff_node.proofs.parts.pass.Goals as goal
+use Rattle.ff_node.proofs.parts.pass_all.Goals as goal
 
 pub returns-in_err-feed-clause-kind : goal.returns-in_err-feed-clause-kind
 returns-in_err-feed-clause-kind g c =

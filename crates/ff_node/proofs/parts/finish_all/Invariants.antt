@@ -1,7 +1,7 @@
 use Rattle.std.proofs.Common.{◌≡◌, map, drop}
 use Rattle.ff_node.specs.Comb.{parts}
 use Rattle.ff_node.specs.Passing.{passed_last}
-use Rattle.ff_node.proofs.parts.finish.Given as goal
+use Rattle.ff_node.proofs.parts.finish_all.Given as goal
 
 -- what is still to come of the parts from here on completes the whole
 abbrev pub invariant-loop-k : goal.invariant-loop-k
