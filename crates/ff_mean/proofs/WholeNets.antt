@@ -13,7 +13,8 @@ use Rattle.ff_net.specs.declared.net.Net.{Net, Pipe as NetPipe}
 use Rattle.ff_net.specs.Meaning.{mean_rejected}
 use Rattle.ff_net.specs.Tree.{Tree, Pipe, tree_of, trees_of, tree_of-Pipe}
 use Rattle.ff_mean.specs.Gathering.{HasRunNet}
-use Rattle.ff_mean.specs.Runs.{AreKept, IsMeant}
+use Rattle.ff_net.specs.Kept.{AreKept}
+use Rattle.ff_mean.specs.Runs.{IsMeant}
 
 -- a pipe is the pipe of its parts
 pub tree_of-parts : {N : Type 0} (net : Net N) (v : Vec (Net N) Global) (parts : List (Net N)) → net ≡ NetPipe v → parts ≡ v.items → tree_of net ≡ Pipe (trees_of parts)
