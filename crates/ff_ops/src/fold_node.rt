@@ -58,7 +58,9 @@ impl Node for FoldNode {
     }
 
     fn svc(&mut self, r: Record, out: &mut Sends) -> Result<Next, NoMemory> {
-        if !self.op.take(&r) {
+        if self.op.take(&r) {
+            drop(r);
+        } else {
             out.reject(r)?;
         }
         Ok(Next::GoOn)

@@ -84,7 +84,9 @@ impl Node for KeyedOp {
     }
 
     fn svc(&mut self, r: Record, out: &mut Sends) -> Result<Next, NoMemory> {
-        if !self.take(&r)? {
+        if self.take(&r)? {
+            drop(r);
+        } else {
             out.reject(r)?;
         }
         Ok(Next::GoOn)

@@ -27,7 +27,7 @@ fn check_run(
     sends: &str,
     rejects: &str,
 ) -> Result<(), Fail> {
-    let mut out = Sends::keeping(alloc);
+    let mut out = Sends::new(alloc, true);
     node.svc_init();
     for line in lines {
         let r = Record::of_line(alloc, split(line.as_bytes(), b'\n').0)?;
