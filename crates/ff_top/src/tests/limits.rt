@@ -3,7 +3,7 @@ use super::{SOUND, Want, check};
 use std::alloc::{AllocError, Global};
 use std::test::Fail;
 
-// The same bytes many times, between others.
+// Bytes many times, between others.
 fn repeated(
     alloc: Global,
     front: &[u8],
