@@ -3,7 +3,7 @@ use Rattle.std.proofs.Common.{◌≡◌}
 use Rattle.ff_net.specs.Meaning.{mean, mean_rejected}
 use Rattle.ff_net.specs.Tree.{tree_of}
 use Rattle.ff_mean.specs.Gathering.{HasRunNet, HasRunRounds}
-use Rattle.ff_mean.proofs.PartSteps.{IfOk-map, HasRunNet-line, HasRunNet-wrap, no_wrap_there}
+use Rattle.ff_mean.proofs.PartSteps.{IfOk-map, HasRunNet-pipeline, HasRunNet-wrap, no_wrap_there}
 use Rattle.ff_mean.proofs.part.run_part.Goals as goal
 
 pub returns-in-Wrap : goal.returns-in-Wrap
@@ -22,5 +22,5 @@ returns-in-Wrap g c =
 pub returns : goal.returns
 returns g c =
     let no_wrap = no_wrap_there c.args.part.now c.in_default.not-Wrap c.requires.wraps in
-    HasRunNet-line g.N.Node.does c.args.limit g.met.N.Node.keeps_kind (tree_of c.args.part.now) c.in_ok-nodes.field-0.items c.args.input c.in_ok-run_pipeline.field-0
+    HasRunNet-pipeline g.N.Node.does c.args.limit g.met.N.Node.keeps_kind (tree_of c.args.part.now) c.in_ok-nodes.field-0.items c.args.input c.in_ok-run_pipeline.field-0
     c.args.out.now c.run_pipeline.new.out no_wrap c.in_ok-nodes.ensures c.in_ok-run_pipeline.ensures.sent c.in_ok-run_pipeline.ensures.rejected
