@@ -1,58 +1,52 @@
 -- What came of the bytes, in the words of the whole text.
-use Rattle.std.proofs.Common.{◌≡◌, ℕ, Bool, true, false, List, [], ◌++◌, None, Some, Ok, Err, refl, ap, ◌∙◌, append-nil, subst}
-use Rattle.std.specs.Prelude.{Option, Result}
-use Rattle.std.specs.Option.{option_map}
-use Rattle.std.specs.Io.KnownBytes.{Appends}
-use Rattle.std.proofs.KnownBytes.{Appends-nil, Consumes-nil}
-use Rattle.ff_io.specs.Bytes.{AppendsPrefix}
-use Rattle.ff_rec.specs.declared.fault.LineFault.{LineFault}
+use Rattle.std.proofs.Common.{◌≡◌, ℕ, Bool, true, false, cond, List, [], ◌++◌, ◌⊎◌, None, Some, Ok, Err, refl, sym, ap, ◌∙◌, inl, inr, append_assoc, append-nil, subst}
+use Rattle.std.specs.Prelude.{Option, Result, option_map}
+use Rattle.std.specs.Io.KnownBytes.{Appends, Consumes, Keeps}
+use Rattle.std.proofs.KnownBytes.{Appends-nil, Appends-trans, Consumes-nil, Keeps-refl, Keeps-trans}
+use Rattle.ff_rec.specs.Counts.{more}
 use Rattle.ff_rec.specs.declared.fault.FeedFault.{FeedFault}
 use Rattle.ff_rec.specs.declared.fault.FeedFault.TheVariants.{Line as Passed}
-use Rattle.ff_rec.specs.Limits.{limit, seen, IsCut, ReadingLaw}
+use Rattle.ff_rec.specs.declared.fault.LineFault.{LineFault}
+use Rattle.ff_rec.specs.Limits.{ReadingLaw}
 use Rattle.ff_rec.specs.Lines.{Rec, text}
-use Rattle.ff_rec.specs.Reading.{Reading, opening, after, given}
-use Rattle.ff_node.specs.Behaviour.{Behaviour, node, node_rejected}
-use Rattle.ff_node.specs.Sends.{Sent, nothing_sent, count_more, kept_of}
-use Rattle.ff_node.proofs.SendsLaws.{count_more-zero}
-use Rattle.ff_stream.specs.Endings.{most_bytes, IsTold, Tells, HasRun}
-use Rattle.ff_stream.specs.Running.{in_all, due, told}
-use Rattle.ff_stream.specs.Reads.{Ends, Drains, HasDrained, all_given}
-use Rattle.ff_stream.specs.declared.report.Report.{Report}
-use Rattle.ff_stream.specs.declared.report.StreamFault.{StreamFault}
-use Rattle.ff_stream.specs.declared.report.StreamFault.TheVariants.{Write, Read, Line, NoMemory}
-use Rattle.ff_stream.specs.declared.running.Running.{Running}
+use Rattle.ff_rec.specs.Reading.{Reading, opening, after, given, last_given}
+use Rattle.ff_net.specs.Versions.{line_bytes, input_bytes, limit_by, seen_by}
+use Rattle.ff_net.specs.declared.net.Version.{Version}
+use Rattle.ff_stream.specs.Endings.{Begun, CountsInput, IsCutShort, IsReadOut, Ran, Stopped, halted, records_of, stop_count}
+use Rattle.ff_stream.specs.Jobs.{Job}
+use Rattle.ff_stream.specs.Reads.{Reads, ReadsSome, StopsAt, last_of}
+use Rattle.ff_stream.specs.Streams.{Streams}
+use Rattle.ff_stream.specs.Works.{Breaks, Ends, Finishes, Goes, IsOpen}
+use Rattle.ff_stream.specs.declared.ending.Ending.{Ending}
+use Rattle.ff_stream.specs.declared.ending.Report.{Report}
+use Rattle.ff_stream.specs.declared.ending.Stop.{Stop}
+use Rattle.ff_stream.specs.declared.ending.Stop.TheVariants.{End, Read, Line}
+use Rattle.ff_stream.specs.declared.fault.Halt.{Halt}
+use Rattle.ff_stream.specs.declared.fault.Halt.TheVariants.{Write, NoMemory}
+use Rattle.ff_stream.specs.declared.fault.RunFault.{RunFault}
+use Rattle.ff_stream.specs.declared.fault.RunFault.TheVariants.{Tasks, Write as WriteFault, NoMemory as NoMemoryFault}
+use Rattle.ff_stream.proofs.Goings.{Breaks-after, Breaks-from, Goes-from, Goes-trans}
 
--- a node that was opened and did nothing yet
-pub record IsOpened {S : Type 0} (b : Behaviour S) (o : S) (keep : Bool) (x : Running S) : Type 0 where
-  pub node : x.node ≡ b.opening o
-  pub runs : x.ended ≡ false
-  pub sends : x.sends ≡ nothing_sent keep
-  pub text : x.text.items ≡ []
+-- the first reading of a text within the limits of a version
+abbrev pub start : Version → Reading
+start v = opening (line_bytes v) input_bytes
 
--- what it will send and reject in all
-in_all-opened : {S : Type 0} (b : Behaviour S) (o : S) (keep : Bool) (x : Running S) → IsOpened b o keep x → (xs : List Rec)
-    → in_all b x.ended x.node x.sends xs ≡ in_all b false (b.opening o) (nothing_sent keep) xs
-in_all-opened b o keep x opened xs =
-    ap (λ e. in_all b e x.node x.sends xs) opened.runs
-    ∙ ap (λ s. in_all b false s x.sends xs) opened.node
-    ∙ ap (λ (s : Sent). in_all b false (b.opening o) s xs) opened.sends
+-- the record of a last line without a newline, where the source ended
+abbrev last : Version → List ℕ → Bool → List Rec
+last v got ended = cond ended (last_given (after (start v) got).line) []
 
-due-opened : {S : Type 0} (b : Behaviour S) (o : S) (keep : Bool) (x : Running S) → IsOpened b o keep x → (xs : List Rec) → due b x xs ≡ text (node b o xs)
-due-opened b o keep x opened xs =
-    ap (λ (s : Sent). x.text.items ++ text s.sends) (in_all-opened b o keep x opened xs) ∙ ap (λ (l : List ℕ). l ++ text (node b o xs)) opened.text
+-- the records that the bytes gave are those that are seen of them
+given-seen : ReadingLaw → (v : Version) (got : List ℕ) (ended : Bool) → given (start v) got ++ last v got ended ≡ seen_by v got ended
+given-seen law v got true = (law (line_bytes v) input_bytes got).at_end
+given-seen law v got false = append-nil (given (start v) got) ∙ (law (line_bytes v) input_bytes got).going
 
-told-opened : {S : Type 0} (b : Behaviour S) (o : S) (keep : Bool) (x : Running S) → IsOpened b o keep x → (xs : List Rec)
-    → told b x xs ≡ record { sends = []; rejects = count_more 0 (node_rejected b o xs); keeps = keep; kept = kept_of keep (node_rejected b o xs) }
-told-opened b o keep x opened xs = ap (λ (s : Sent). record s { sends = [] }) (in_all-opened b o keep x opened xs)
-
--- what it came to
-IsTold-ends : {S : Type 0} (b : Behaviour S) (o : S) (keep : Bool) (x : Running S) (xs : List Rec) (t u : Option (List ℕ)) (report : Report) → IsOpened b o keep x → Ends b x xs t u report
-    → IsTold b o keep xs t u report
-IsTold-ends b o keep x xs t u report opened ends = record {
-  output = subst (Appends t u) (due-opened b o keep x opened xs) ends.output;
-  rejected = ends.rejected ∙ ap (λ (s : Sent). s.rejects) (told-opened b o keep x opened xs) ∙ count_more-zero (node_rejected b o xs);
-  kept = ends.kept ∙ ap (λ (s : Sent). s.kept) (told-opened b o keep x opened xs);
-}
+-- the last line where the reading stopped
+last_of-stop : (v : Version) (s : Reading) (got : List ℕ) (stop : Stop) (ended : Bool) (left : Option (List ℕ)) → s ≡ after (start v) got → StopsAt stop s.fault ended left
+    → last_of stop s.line ≡ last v got ended
+last_of-stop v s got End ended left is stops =
+    ap (λ (q : Reading). last_given q.line) is ∙ ap (λ e. cond e (last_given (after (start v) got).line) []) (sym stops.1)
+last_of-stop v s got Read ended left is stops = ap (λ e. cond e (last_given (after (start v) got).line) []) (sym stops.1)
+last_of-stop v s got (Line passed) ended left is stops = ap (λ e. cond e (last_given (after (start v) got).line) []) (sym stops.1)
 
 -- the refusal of the reader is the limit that was passed
 none-limit : (found : Option LineFault) → option_map Passed found ≡ None → found ≡ None
@@ -63,40 +57,145 @@ some-limit : (found : Option LineFault) (passed : LineFault) → option_map Pass
 some-limit None passed is = absurd (cc)
 some-limit (Some other) passed is = cc
 
--- the records that the bytes gave are those that are seen of them
-all_given-seen : (line_limit most : ℕ) (got : List ℕ) (ended : Bool) → IsCut line_limit most got → all_given (opening line_limit most) got ended ≡ seen line_limit most got ended
-all_given-seen line_limit most got true cuts = cuts.at_end
-all_given-seen line_limit most got false cuts = append-nil (given (opening line_limit most) got) ∙ cuts.going
+-- why reading stopped
+Stopped-limit : (stop : Stop) (found : Option LineFault) (ended : Bool) (left : Option (List ℕ)) → StopsAt stop (option_map Passed found) ended left → Stopped stop found ended left
+Stopped-limit End found ended left stops = (none-limit found stops.0, stops.1, stops.2)
+Stopped-limit Read found ended left stops = (none-limit found stops.0, stops.1)
+Stopped-limit (Line passed) found ended left stops = some-limit found passed stops.0
 
--- an answer about those that were given is one about those that are seen
-Tells-drains : {S : Type 0} (b : Behaviour S) (o : S) (keep : Bool) (x : Running S) (xs : List Rec) (found : Option LineFault) (t u : Option (List ℕ)) (answer : Result Report StreamFault)
-    → IsOpened b o keep x → Drains b x xs (option_map Passed found) t u answer → Tells b o keep xs found t u answer
-Tells-drains b o keep x xs found t u (Ok report) opened drains = (none-limit found drains.0, IsTold-ends b o keep x xs t u report opened drains.1)
-Tells-drains b o keep x xs found t u (Err Write) opened drains = subst (AppendsPrefix t u) (due-opened b o keep x opened xs) drains
-Tells-drains b o keep x xs found t u (Err (Read report)) opened drains = (none-limit found drains.0, IsTold-ends b o keep x xs t u report opened drains.1)
-Tells-drains b o keep x xs found t u (Err (Line passed report)) opened drains = (some-limit found passed drains.0, IsTold-ends b o keep x xs t u report opened drains.1)
-Tells-drains b o keep x xs found t u (Err NoMemory) opened drains = subst (AppendsPrefix t u) (due-opened b o keep x opened xs) drains
+Stopped-read : ReadingLaw → (v : Version) (s : Reading) (got : List ℕ) (stop : Stop) (ended : Bool) (left : Option (List ℕ)) → s ≡ after (start v) got → StopsAt stop s.fault ended left
+    → Stopped stop (limit_by v got) ended left
+Stopped-read law v s got stop ended left is stops =
+    Stopped-limit stop (limit_by v got) ended left
+    (subst (λ f. StopsAt stop f ended left) (ap (λ (q : Reading). q.fault) is ∙ (law (line_bytes v) input_bytes got).fault) stops)
 
-pub HasRun-drained : {S : Type 0} (b : Behaviour S) (o : S) (line_limit : ℕ) (keep : Bool) (x : Running S) (r : Reading) (l m : Option (List ℕ)) (ended : Bool) (t u : Option (List ℕ))
-    (answer : Result Report StreamFault) → ReadingLaw → IsOpened b o keep x → r ≡ opening line_limit most_bytes → HasDrained b x r l m ended t u answer
-    → HasRun b o line_limit keep l m ended t u answer
-HasRun-drained b o line_limit keep x r l m ended t u answer law opened is drained =
-    let got = drained.got in
-    let cuts = law line_limit most_bytes got in
-    let found = limit line_limit most_bytes got in
-    let start : Drains b x (all_given (opening line_limit most_bytes) got ended) (after (opening line_limit most_bytes) got).fault t u answer =
-    subst (λ (q : Reading). Drains b x (all_given q got ended) (after q got).fault t u answer) is drained.drains in
-    let whole : Drains b x (seen line_limit most_bytes got ended) (after (opening line_limit most_bytes) got).fault t u answer =
-    subst (λ xs. Drains b x xs (after (opening line_limit most_bytes) got).fault t u answer) (all_given-seen line_limit most_bytes got ended cuts) start in
-    let told_of : Drains b x (seen line_limit most_bytes got ended) (option_map Passed found) t u answer =
-    subst (λ (f : Option FeedFault). Drains b x (seen line_limit most_bytes got ended) f t u answer) cuts.fault whole in
-    record { got = got; reads = drained.reads; tells = Tells-drains b o keep x (seen line_limit most_bytes got ended) found t u answer opened told_of }
+-- the counts of the input's faults
+pub CountsInput-quiet : (fault : RunFault) (before now : ℕ) → now ≡ before → CountsInput before now (Err fault)
+CountsInput-quiet fault before now is = inl is
 
--- memory ran out before the first read
-pub HasRun-none : {S : Type 0} (b : Behaviour S) (o : S) (line_limit : ℕ) (keep : Bool) (l : Option (List ℕ)) (ended : Bool) (t : Option (List ℕ))
-    → HasRun b o line_limit keep l l ended t t (Err NoMemory)
-HasRun-none b o line_limit keep l ended t = record {
+pub CountsInput-stopped : (stop : Stop) (fault : RunFault) (before now : ℕ) → now ≡ stop_count before stop → CountsInput before now (Err fault)
+CountsInput-stopped End fault before now is = inl is
+CountsInput-stopped Read fault before now is = inr is
+CountsInput-stopped (Line passed) fault before now is = inl is
+
+-- nothing was written
+Keeps-nothing : (t u : Option (List ℕ)) (put : List ℕ) → Appends t u put → put ≡ [] → Keeps t u
+Keeps-nothing None u put written empty = tt
+Keeps-nothing (Some x) None put written empty = absurd written
+Keeps-nothing (Some x) (Some y) put written empty = written ∙ ap (λ l. x ++ l) empty ∙ append-nil x
+
+-- the row of a halt
+pub Ran-halted : {N : Type 0} (j : Job N) (s : Streams) (halt : Halt) → IsCutShort j s halt → Ran j s (Err (halted halt))
+Ran-halted j s Write cut = cut
+Ran-halted j s NoMemory cut = cut
+
+-- nothing was done yet
+pub IsCutShort-none : {N : Type 0} (j : Job N) (s : Streams) → s.left_now ≡ s.left → s.taken_now ≡ s.taken → IsCutShort j s NoMemory
+IsCutShort-none j s left taken = record {
   got = [];
-  reads = Consumes-nil l;
-  tells = record { front = []; back = text (node b o (seen line_limit most_bytes [] ended)); splits = refl; appends = Appends-nil t };
+  reads = subst (λ l. Consumes s.left l []) (sym left) (Consumes-nil s.left);
+  front = [];
+  writes = subst (λ t. Appends s.taken t []) (sym taken) (Appends-nil s.taken);
+  begun = inl refl;
+  goes_on = inr (λ zs. inl refl);
+  waits = λ wraps. inr (refl, refl);
 }
+
+module _ {N W : Type 0} (stands : Job N → W → List Rec → List ℕ → Type 0) (law : ReadingLaw) (v : Version) (w : W) (j : Job N) (is : j.version ≡ v) (at : stands j w [] []) (s : Streams) where
+  records-given : (got : List ℕ) → given (start v) got ++ last v got s.ended ≡ records_of j s got
+  records-given got = given-seen law v got s.ended ∙ ap (λ (u : Version). seen_by u got s.ended) (sym is)
+
+  -- it broke off while there was more to read, or at the last line
+  IsCutShort-opened : (halt : Halt) (got : List ℕ) (xs others : List Rec) → Consumes s.left s.left_now got → xs ++ others ≡ records_of j s got
+      → Breaks stands w xs halt s.taken s.taken_now → IsCutShort j s halt
+  IsCutShort-opened halt got xs others read all breaks =
+      let opened = breaks.opens j [] [] at in
+      let follows : (zs : List Rec) → Begun j halt (records_of j s got ++ zs) breaks.put =
+      λ zs. subst (λ l. Begun j halt l breaks.put) (sym (append_assoc xs others zs) ∙ ap (λ l. l ++ zs) all) (opened.begun (others ++ zs)) in
+      record {
+        got = got;
+        reads = read;
+        front = breaks.put;
+        writes = breaks.taken;
+        begun = subst (λ l. Begun j halt l breaks.put) (append-nil (records_of j s got)) (follows []);
+        goes_on = inr follows;
+        waits = λ wraps. inr (opened.waits wraps);
+      }
+
+  pub Ran-some : (halt : Halt) (r : Reading) → r ≡ start v → ReadsSome stands w r halt s.left s.left_now s.taken s.taken_now → Ran j s (Err (halted halt))
+  Ran-some halt r begins some =
+      Ran-halted j s halt
+      (IsCutShort-opened halt some.got (given (start v) some.got) (last v some.got s.ended) some.reads (records-given some.got)
+      (Breaks-from stands w (given r some.got) (given (start v) some.got) halt s.taken s.taken_now (ap (λ (q : Reading). given q some.got) begins) some.breaks))
+
+  module _ (u : W) (r q : Reading) (begins : r ≡ start v) (stop : Stop) (mid : Option (List ℕ)) (so_far : Reads stands w r u q s.left s.left_now s.taken mid)
+      (stops : StopsAt stop q.fault s.ended s.left_now) where
+    reader : q ≡ after (start v) so_far.got
+    reader = so_far.reader ∙ ap (λ (p : Reading). after p so_far.got) begins
+
+    all-given : given r so_far.got ++ last_of stop q.line ≡ records_of j s so_far.got
+    all-given =
+        ap (λ l. given r so_far.got ++ l) (last_of-stop v q so_far.got stop s.ended s.left_now reader stops)
+        ∙ ap (λ (p : Reading). given p so_far.got ++ last v so_far.got s.ended) begins
+        ∙ records-given so_far.got
+
+    -- it broke off at the last line
+    pub Ran-last : (halt : Halt) → Breaks stands u (last_of stop q.line) halt mid s.taken_now → Ran j s (Err (halted halt))
+    Ran-last halt breaks =
+        Ran-halted j s halt
+        (IsCutShort-opened halt so_far.got (given r so_far.got ++ last_of stop q.line) [] so_far.reads (append-nil (given r so_far.got ++ last_of stop q.line) ∙ all-given)
+        (Breaks-after stands w u (given r so_far.got) (last_of stop q.line) halt s.taken mid s.taken_now so_far.goes breaks))
+
+    module _ (x : W) (behind : Option (List ℕ)) (goes : Goes stands u (last_of stop q.line) x mid behind) (counts : s.faults_now ≡ stop_count s.faults stop) where
+      whole : Goes stands w (records_of j s so_far.got) x s.taken behind
+      whole = Goes-from stands w x (given r so_far.got ++ last_of stop q.line) (records_of j s so_far.got) s.taken behind all-given
+          (Goes-trans stands w u x (given r so_far.got) (last_of stop q.line) s.taken mid behind so_far.goes goes)
+
+      stopped : Stopped stop (limit_by j.version so_far.got) s.ended s.left_now
+      stopped = subst (λ (p : Version). Stopped stop (limit_by p so_far.got) s.ended s.left_now) (sym is) (Stopped-read law v q so_far.got stop s.ended s.left_now reader stops)
+
+      read_out : IsReadOut j s so_far.got
+      read_out = record { stop = stop; stops = stopped; counts = counts }
+
+      -- it came to its end
+      pub Ran-ended : (report : Report) → Finishes stands x behind s.taken_now (Ok report) → Ran j s (Ok (record { stop = stop; report = report }))
+      Ran-ended report finishes =
+          let ends = finishes j (records_of j s so_far.got) whole.put (whole.keeps j [] [] at) in
+          record {
+            got = so_far.got;
+            reads = so_far.reads;
+            sent = ends.sent;
+            answers = ends.answers;
+            writes = subst (Appends s.taken s.taken_now) (sym ends.whole) (Appends-trans s.taken behind s.taken_now whole.put ends.put whole.taken ends.taken);
+            reports = ends.reports;
+            stops = stopped;
+          }
+
+      IsCutShort-ended : (halt : Halt) (put : List ℕ) → Appends behind s.taken_now put → Begun j halt (records_of j s so_far.got) (whole.put ++ put) → IsCutShort j s halt
+      IsCutShort-ended halt put written begun = record {
+        got = so_far.got;
+        reads = so_far.reads;
+        front = whole.put ++ put;
+        writes = Appends-trans s.taken behind s.taken_now whole.put put whole.taken written;
+        begun = begun;
+        goes_on = inl read_out;
+        waits = λ wraps. inl read_out;
+      }
+
+      -- it broke off there, or a wrap has too many tasks
+      pub Ran-broken : (fault : RunFault) → Finishes stands x behind s.taken_now (Err fault) → Ran j s (Err fault)
+      Ran-broken Tasks finishes =
+          let ends = finishes j (records_of j s so_far.got) whole.put (whole.keeps j [] [] at) in
+          record {
+            got = so_far.got;
+            reads = so_far.reads;
+            over = ends.over;
+            untouched = Keeps-trans s.taken behind s.taken_now (Keeps-nothing s.taken behind whole.put whole.taken ends.nothing) ends.untouched;
+            read_out = read_out;
+          }
+      Ran-broken WriteFault finishes =
+          let ends = finishes j (records_of j s so_far.got) whole.put (whole.keeps j [] [] at) in
+          IsCutShort-ended Write ends.put ends.taken ends.begun
+      Ran-broken NoMemoryFault finishes =
+          let ends = finishes j (records_of j s so_far.got) whole.put (whole.keeps j [] [] at) in
+          IsCutShort-ended NoMemory ends.put ends.taken ends.begun

@@ -1,123 +1,90 @@
--- How what is due goes on: a record more, a write, one stretch behind another, a stretch that breaks off.
-use Rattle.std.proofs.Common.{◌≡◌, ℕ, List, [], ◌∷◌, ◌++◌, refl, sym, ap, ◌∙◌, append_assoc, append-nil, subst}
+-- How work goes on: one stretch behind another, a stretch that breaks off.
+use Rattle.std.proofs.Common.{◌≡◌, ℕ, List, [], ◌++◌, refl, sym, ap, ◌∙◌, append_assoc, append-nil, subst}
 use Rattle.std.specs.Prelude.{Option}
-use Rattle.std.specs.Io.KnownBytes.{Appends}
 use Rattle.std.proofs.KnownBytes.{Appends-nil, Appends-trans}
-use Rattle.ff_io.specs.Bytes.{AppendsPrefix}
-use Rattle.ff_rec.specs.Lines.{Rec, text}
-use Rattle.ff_node.specs.Behaviour.{Behaviour}
-use Rattle.ff_node.specs.Sends.{Sent}
-use Rattle.ff_stream.specs.Running.{in_all, due, told, Goes, Breaks}
-use Rattle.ff_stream.specs.declared.running.Running.{Running}
+use Rattle.ff_rec.specs.Lines.{Rec}
+use Rattle.ff_stream.specs.Endings.{Begun}
+use Rattle.ff_stream.specs.Jobs.{Job}
+use Rattle.ff_stream.specs.Works.{Goes, IsOpen, Breaks, Drops}
+use Rattle.ff_stream.specs.declared.fault.Halt.{Halt}
+use Rattle.ff_stream.specs.declared.fault.Halt.TheVariants.{NoMemory}
 
--- nothing was done yet
-pub Goes-refl : {S : Type 0} (b : Behaviour S) (x : Running S) (xs : List Rec) (t : Option (List ℕ)) → Goes b x xs x xs t t
-Goes-refl b x xs t = record { put = []; taken = Appends-nil t; sends = λ zs. refl; rejects = λ zs. refl }
+-- what was written of the same records
+IsOpen-at : {N : Type 0} (j : Job N) (halt : Halt) (xs ys : List Rec) (front more : List ℕ) → xs ≡ ys → front ≡ more
+    → IsOpen j halt xs front → IsOpen j halt ys more
+IsOpen-at j halt xs ys front more same equal opened =
+    subst (λ l. IsOpen j halt l more) same (subst (λ l. IsOpen j halt xs l) equal opened)
 
--- a record was handed over
-pub Goes-handed : {S : Type 0} (b : Behaviour S) (x y z : Running S) (xs queue ys : List Rec) (r : Rec) (t u : Option (List ℕ)) → Goes b x xs y queue t u → queue ≡ r ∷ ys
-    → ((zs : List Rec) → due b y (r ∷ zs) ≡ due b z zs) → ((zs : List Rec) → told b y (r ∷ zs) ≡ told b z zs) → Goes b x xs z ys t u
-Goes-handed b x y z xs queue ys r t u so_far first sends rejects = record {
-  put = so_far.put;
-  taken = so_far.taken;
-  sends = λ zs. so_far.sends zs ∙ ap (λ (l : List Rec). so_far.put ++ due b y (l ++ zs)) first ∙ ap (λ l. so_far.put ++ l) (sends (ys ++ zs));
-  rejects = λ zs. so_far.rejects zs ∙ ap (λ (l : List Rec). told b y (l ++ zs)) first ∙ rejects (ys ++ zs);
+-- what was written whatever follows, and so whatever follows some of it
+pub IsOpen-more : {N : Type 0} (j : Job N) (halt : Halt) (xs more : List Rec) (front : List ℕ) → IsOpen j halt xs front → IsOpen j halt (xs ++ more) front
+IsOpen-more j halt xs more front opened = record {
+  begun = λ zs. subst (λ l. Begun j halt l front) (sym (append_assoc xs more zs)) (opened.begun (more ++ zs));
+  waits = opened.waits;
 }
 
--- all text was written
-pub Goes-flushed : {S : Type 0} (b : Behaviour S) (x y z : Running S) (xs ys : List Rec) (t u v : Option (List ℕ)) → Goes b x xs y ys t u → Appends u v y.text.items
-    → z.text.items ≡ [] → z.node ≡ y.node → z.ended ≡ y.ended → z.sends ≡ y.sends → Goes b x xs z ys t v
-Goes-flushed b x y z xs ys t u v so_far written empty node ended out =
-    let rest : List Rec → Sent = λ zs. in_all b y.ended y.node y.sends (ys ++ zs) in
-    let same : (zs : List Rec) → in_all b z.ended z.node z.sends (ys ++ zs) ≡ rest zs =
-    λ zs. ap (λ e. in_all b e z.node z.sends (ys ++ zs)) ended ∙ ap (λ s. in_all b y.ended s z.sends (ys ++ zs)) node ∙ ap (λ (o : Sent). in_all b y.ended y.node o (ys ++ zs)) out in
-    record {
-      put = so_far.put ++ y.text.items;
-      taken = Appends-trans t u v so_far.put y.text.items so_far.taken written;
-      sends = λ zs. so_far.sends zs ∙ sym (append_assoc so_far.put y.text.items (text (rest zs).sends))
-          ∙ ap (λ (s : Sent). (so_far.put ++ y.text.items) ++ text s.sends) (sym (same zs))
-          ∙ ap (λ (l : List ℕ). (so_far.put ++ y.text.items) ++ (l ++ text (in_all b z.ended z.node z.sends (ys ++ zs)).sends)) (sym empty);
-      rejects = λ zs. so_far.rejects zs ∙ ap (λ (s : Sent). record s { sends = [] }) (sym (same zs));
-    }
+module _ {N W : Type 0} (stands : Job N → W → List Rec → List ℕ → Type 0) where
+  stands-at : (j : Job N) (w : W) (xs ys : List Rec) (front more : List ℕ) → xs ≡ ys → front ≡ more → stands j w xs front → stands j w ys more
+  stands-at j w xs ys front more same equal at = subst (λ l. stands j w l more) same (subst (λ l. stands j w xs l) equal at)
 
--- more records behind
-pub Goes-more : {S : Type 0} (b : Behaviour S) (x y : Running S) (xs ys more : List Rec) (t u : Option (List ℕ)) → Goes b x xs y ys t u → Goes b x (xs ++ more) y (ys ++ more) t u
-Goes-more b x y xs ys more t u so_far = record {
-  put = so_far.put;
-  taken = so_far.taken;
-  sends = λ zs. ap (due b x) (append_assoc xs more zs) ∙ so_far.sends (more ++ zs) ∙ ap (λ (l : List Rec). so_far.put ++ due b y l) (sym (append_assoc ys more zs));
-  rejects = λ zs. ap (told b x) (append_assoc xs more zs) ∙ so_far.rejects (more ++ zs) ∙ ap (told b y) (sym (append_assoc ys more zs));
-}
+  -- nothing was done
+  pub Goes-refl : (w : W) (t : Option (List ℕ)) → Goes stands w [] w t t
+  Goes-refl w t = record {
+    put = [];
+    taken = Appends-nil t;
+    keeps = λ j xs front at. stands-at j w xs (xs ++ []) front (front ++ []) (sym (append-nil xs)) (sym (append-nil front)) at;
+  }
 
--- one stretch behind another
-pub Goes-trans : {S : Type 0} (b : Behaviour S) (x y z : Running S) (xs ys ws : List Rec) (t u v : Option (List ℕ)) → Goes b x xs y ys t u → Goes b y ys z ws u v → Goes b x xs z ws t v
-Goes-trans b x y z xs ys ws t u v first second = record {
-  put = first.put ++ second.put;
-  taken = Appends-trans t u v first.put second.put first.taken second.taken;
-  sends = λ zs. first.sends zs ∙ ap (λ l. first.put ++ l) (second.sends zs) ∙ sym (append_assoc first.put second.put (due b z (ws ++ zs)));
-  rejects = λ zs. first.rejects zs ∙ second.rejects zs;
-}
+  -- one stretch behind another
+  pub Goes-trans : (w v u : W) (rs ss : List Rec) (t t' t'' : Option (List ℕ)) → Goes stands w rs v t t' → Goes stands v ss u t' t'' → Goes stands w (rs ++ ss) u t t''
+  Goes-trans w v u rs ss t t' t'' first second = record {
+    put = first.put ++ second.put;
+    taken = Appends-trans t t' t'' first.put second.put first.taken second.taken;
+    keeps = λ j xs front at. stands-at j u ((xs ++ rs) ++ ss) (xs ++ (rs ++ ss)) ((front ++ first.put) ++ second.put) (front ++ (first.put ++ second.put))
+        (append_assoc xs rs ss) (append_assoc front first.put second.put)
+        (second.keeps j (xs ++ rs) (front ++ first.put) (first.keeps j xs front at));
+  }
 
--- a stretch that breaks off at once
-pub Breaks-none : {S : Type 0} (b : Behaviour S) (x : Running S) (xs : List Rec) (t : Option (List ℕ)) → Breaks b x xs t t
-Breaks-none b x xs t = record { front = []; taken = Appends-nil t; begins = λ zs. (due b x (xs ++ zs), refl) }
+  -- of the same records
+  pub Goes-from : (w v : W) (rs ss : List Rec) (t u : Option (List ℕ)) → rs ≡ ss → Goes stands w rs v t u → Goes stands w ss v t u
+  Goes-from w v rs ss t u is goes = subst (λ l. Goes stands w l v t u) is goes
 
--- one that breaks off between two records
-pub Breaks-goes : {S : Type 0} (b : Behaviour S) (x y : Running S) (xs ys : List Rec) (t u : Option (List ℕ)) → Goes b x xs y ys t u → Breaks b x xs t u
-Breaks-goes b x y xs ys t u so_far = record { front = so_far.put; taken = so_far.taken; begins = λ zs. (due b y (ys ++ zs), so_far.sends zs) }
+  pub Breaks-from : (w : W) (rs ss : List Rec) (halt : Halt) (t u : Option (List ℕ)) → rs ≡ ss → Breaks stands w rs halt t u → Breaks stands w ss halt t u
+  Breaks-from w rs ss halt t u is breaks = subst (λ l. Breaks stands w l halt t u) is breaks
 
--- one stretch, and another that breaks off
-pub Breaks-after : {S : Type 0} (b : Behaviour S) (x y : Running S) (xs ys : List Rec) (t u v : Option (List ℕ)) → Goes b x xs y ys t u → Breaks b y ys u v → Breaks b x xs t v
-Breaks-after b x y xs ys t u v first second = record {
-  front = first.put ++ second.front;
-  taken = Appends-trans t u v first.put second.front first.taken second.taken;
-  begins = λ zs. let rest = second.begins zs in
-      (rest.0, first.sends zs ∙ ap (λ l. first.put ++ l) rest.1 ∙ sym (append_assoc first.put second.front rest.0));
-}
+  -- records that are dropped
+  pub Goes-drops : (w : W) (rs : List Rec) (t : Option (List ℕ)) → Drops stands w → Goes stands w rs w t t
+  Goes-drops w rs t drops = record {
+    put = [];
+    taken = Appends-nil t;
+    keeps = λ j xs front at. stands-at j w (xs ++ rs) (xs ++ rs) front (front ++ []) refl (sym (append-nil front)) (drops j xs rs front at);
+  }
 
--- a write that breaks off
-pub Breaks-held : {S : Type 0} (b : Behaviour S) (y : Running S) (ys : List Rec) (u v : Option (List ℕ)) → AppendsPrefix u v y.text.items → Breaks b y ys u v
-Breaks-held b y ys u v written = record {
-  front = written.front;
-  taken = written.appends;
-  begins = λ zs. let rest : List ℕ = text (in_all b y.ended y.node y.sends (ys ++ zs)).sends in
-      (written.back ++ rest, ap (λ l. l ++ rest) written.splits ∙ append_assoc written.front written.back rest);
-}
+  -- one stretch, and another that breaks off
+  pub Breaks-after : (w v : W) (rs ss : List Rec) (halt : Halt) (t t' t'' : Option (List ℕ)) → Goes stands w rs v t t' → Breaks stands v ss halt t' t''
+      → Breaks stands w (rs ++ ss) halt t t''
+  Breaks-after w v rs ss halt t t' t'' first second = record {
+    put = first.put ++ second.put;
+    taken = Appends-trans t t' t'' first.put second.put first.taken second.taken;
+    opens = λ j xs front at. IsOpen-at j halt ((xs ++ rs) ++ ss) (xs ++ (rs ++ ss)) ((front ++ first.put) ++ second.put) (front ++ (first.put ++ second.put))
+        (append_assoc xs rs ss) (append_assoc front first.put second.put)
+        (second.opens j (xs ++ rs) (front ++ first.put) (first.keeps j xs front at));
+  }
 
--- more records behind
-pub Breaks-more : {S : Type 0} (b : Behaviour S) (x : Running S) (xs more : List Rec) (t u : Option (List ℕ)) → Breaks b x xs t u → Breaks b x (xs ++ more) t u
-Breaks-more b x xs more t u so_far = record {
-  front = so_far.front;
-  taken = so_far.taken;
-  begins = λ zs. let rest = so_far.begins (more ++ zs) in (rest.0, ap (due b x) (append_assoc xs more zs) ∙ rest.1);
-}
+  -- more records behind
+  pub Breaks-more : (w : W) (rs more : List Rec) (halt : Halt) (t u : Option (List ℕ)) → Breaks stands w rs halt t u → Breaks stands w (rs ++ more) halt t u
+  Breaks-more w rs more halt t u breaks = record {
+    put = breaks.put;
+    taken = breaks.taken;
+    opens = λ j xs front at. IsOpen-at j halt ((xs ++ rs) ++ more) (xs ++ (rs ++ more)) (front ++ breaks.put) (front ++ breaks.put)
+        (append_assoc xs rs more) refl (IsOpen-more j halt (xs ++ rs) more (front ++ breaks.put) (breaks.opens j xs front at));
+  }
 
--- where nothing follows
-pub AppendsPrefix-breaks : {S : Type 0} (b : Behaviour S) (x : Running S) (xs : List Rec) (t u : Option (List ℕ)) → Breaks b x xs t u → AppendsPrefix t u (due b x xs)
-AppendsPrefix-breaks b x xs t u so_far =
-    let rest = so_far.begins [] in
-    record { front = so_far.front; back = rest.0; splits = ap (due b x) (sym (append-nil xs)) ∙ rest.1; appends = so_far.taken }
-
--- one stretch, and behind it the end
-pub due-goes : {S : Type 0} (b : Behaviour S) (x y : Running S) (xs ys : List Rec) (t u : Option (List ℕ)) (so_far : Goes b x xs y ys t u) → due b x xs ≡ so_far.put ++ due b y ys
-due-goes b x y xs ys t u so_far =
-    ap (due b x) (sym (append-nil xs)) ∙ so_far.sends [] ∙ ap (λ (l : List Rec). so_far.put ++ due b y l) (append-nil ys)
-
-pub told-goes : {S : Type 0} (b : Behaviour S) (x y : Running S) (xs ys : List Rec) (t u : Option (List ℕ)) → Goes b x xs y ys t u → told b x xs ≡ told b y ys
-told-goes b x y xs ys t u so_far = ap (told b x) (sym (append-nil xs)) ∙ so_far.rejects [] ∙ ap (told b y) (append-nil ys)
-
-pub AppendsPrefix-after : {S : Type 0} (b : Behaviour S) (x y : Running S) (xs ys : List Rec) (t u v : Option (List ℕ)) → Goes b x xs y ys t u → AppendsPrefix u v (due b y ys)
-    → AppendsPrefix t v (due b x xs)
-AppendsPrefix-after b x y xs ys t u v first second = record {
-  front = first.put ++ second.front;
-  back = second.back;
-  splits = due-goes b x y xs ys t u first ∙ ap (λ l. first.put ++ l) second.splits ∙ sym (append_assoc first.put second.front second.back);
-  appends = Appends-trans t u v first.put second.front first.taken second.appends;
-}
-
--- the same of the same records
-pub Goes-from : {S : Type 0} (b : Behaviour S) (x y : Running S) (xs ys zs : List Rec) (t u : Option (List ℕ)) → xs ≡ ys → Goes b x xs y zs t u → Goes b x ys y zs t u
-Goes-from b x y xs ys zs t u is so_far = subst (λ l. Goes b x l y zs t u) is so_far
-
-pub Breaks-from : {S : Type 0} (b : Behaviour S) (x : Running S) (xs ys : List Rec) (t u : Option (List ℕ)) → xs ≡ ys → Breaks b x xs t u → Breaks b x ys t u
-Breaks-from b x xs ys t u is so_far = subst (λ l. Breaks b x l t u) is so_far
+  -- memory ran out between two records
+  pub Breaks-memory : ((j : Job N) (w : W) (xs : List Rec) (front : List ℕ) → stands j w xs front → IsOpen j NoMemory xs front)
+      → (w : W) (rs : List Rec) (t : Option (List ℕ)) → Breaks stands w rs NoMemory t t
+  Breaks-memory law w rs t = record {
+    put = [];
+    taken = Appends-nil t;
+    opens = λ j xs front at. IsOpen-at j NoMemory (xs ++ rs) (xs ++ rs) front (front ++ []) refl (sym (append-nil front))
+        (IsOpen-more j NoMemory xs rs front (law j w xs front at));
+  }

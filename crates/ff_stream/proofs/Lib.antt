@@ -1,5 +1,6 @@
-mod Gathering
-mod Goings
-mod Readings
-mod Drainings
-mod Endings
+pub mod Goings
+pub mod Readings
+pub mod Endings
+pub mod Gathering
+pub mod Flowings
+pub mod Writings

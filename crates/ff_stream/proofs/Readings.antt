@@ -1,87 +1,30 @@
 -- How far a source was read, and what came of it.
-use Rattle.std.proofs.Common.{◌≡◌, ℕ, List, [], ◌++◌, Ok, Err, refl, sym, ap, ◌∙◌, append-nil, subst, take, drop, take-append-drop, Some, ◌∷◌}
-use Rattle.std.specs.Prelude.{Option, Result, OnErr}
-use Rattle.std.specs.Io.KnownBytes.{Appends, Consumes, Keeps}
+use Rattle.std.proofs.Common.{◌≡◌, ℕ, ◌+◌, ◌≤◌, List, [], ◌∷◌, ◌++◌, length, append_assoc, refl, sym, ap, ◌∙◌, append-nil, subst, take, drop, take-append-drop, None, Some, arith}
+use Rattle.std.specs.Prelude.{Option, option_map}
+use Rattle.std.specs.Io.KnownBytes.{Consumes, Keeps}
 use Rattle.std.proofs.KnownBytes.{Consumes-nil, Consumes-trans, Consumes-kept}
-use Rattle.ff_io.specs.Bytes.{AppendsPrefix}
 use Rattle.ff_rec.specs.declared.fault.FeedFault.{FeedFault}
+use Rattle.ff_rec.specs.declared.fault.FeedFault.TheVariants.{Line as Passed}
+use Rattle.ff_rec.specs.declared.fault.LineFault.{LineFault}
 use Rattle.ff_rec.specs.Lines.{Rec}
-use Rattle.ff_rec.specs.Reading.{Reading, next, gives, after, given, after-append, given-append}
-use Rattle.ff_node.specs.Behaviour.{Behaviour}
-use Rattle.ff_stream.specs.Running.{Goes, Breaks}
-use Rattle.ff_stream.specs.Reads.{Reads, ReadsSome}
-use Rattle.ff_stream.specs.declared.running.Running.{Running}
-use Rattle.ff_stream.proofs.Goings.{Goes-refl, Goes-more, Goes-trans, Goes-flushed, Breaks-goes, Breaks-after, Breaks-held, Breaks-more}
-
--- nothing was read yet
-pub Reads-none : {S : Type 0} (b : Behaviour S) (x : Running S) (r : Reading) (l t : Option (List ℕ)) → Reads b x r x r l l t t
-Reads-none b x r l t = record { got = []; reads = Consumes-nil l; reader = refl; goes = Goes-refl b x [] t }
-
--- a read that failed
-pub Reads-kept : {S : Type 0} (b : Behaviour S) (x y : Running S) (r s : Reading) (l m n t u : Option (List ℕ)) → Reads b x r y s l m t u → Keeps m n → Reads b x r y s l n t u
-Reads-kept b x y r s l m n t u so_far kept = record { got = so_far.got; reads = Consumes-kept l m n so_far.got so_far.reads kept; reader = so_far.reader; goes = so_far.goes }
-
--- a read that gave nothing
-pub Reads-nothing : {S : Type 0} (b : Behaviour S) (x y : Running S) (r s : Reading) (l m n t u : Option (List ℕ)) (piece : List ℕ) → Reads b x r y s l m t u → Consumes m n piece → piece ≡ []
-    → Reads b x r y s l n t u
-Reads-nothing b x y r s l m n t u piece so_far read empty = record {
-  got = so_far.got;
-  reads = subst (Consumes l n) (ap (λ p. so_far.got ++ p) empty ∙ append-nil so_far.got) (Consumes-trans l m n so_far.got piece so_far.reads read);
-  reader = so_far.reader;
-  goes = so_far.goes;
-}
+use Rattle.ff_rec.specs.Reading.{Reading, next, gives, after, given}
+use Rattle.ff_rec.specs.ReadingLaws.{after-append, given-append}
+use Rattle.ff_stream.specs.Jobs.{Job}
+use Rattle.ff_stream.specs.Reads.{HasTaken, Reads, ReadsSome, Hands}
+use Rattle.ff_stream.specs.Works.{Goes, Breaks}
+use Rattle.ff_stream.specs.declared.fault.Halt.{Halt}
+use Rattle.ff_stream.proofs.Goings.{Goes-refl, Goes-trans, Goes-from, Breaks-after, Breaks-from, Breaks-more}
 
 -- the records of two stretches of bytes
 given-two : (r s : Reading) (got piece : List ℕ) → s ≡ after r got → given r got ++ given s piece ≡ given r (got ++ piece)
 given-two r s got piece is = ap (λ (t : Reading). given r got ++ given t piece) is ∙ sym (given-append r got piece)
 
--- a piece more
-pub Reads-piece : {S : Type 0} (b : Behaviour S) (x y z : Running S) (r s next : Reading) (l m n t u v : Option (List ℕ)) (piece : List ℕ) → Reads b x r y s l m t u → Consumes m n piece
-    → next ≡ after s piece → Goes b y (given s piece) z [] u v → Reads b x r z next l n t v
-Reads-piece b x y z r s next l m n t u v piece so_far read state goes = record {
-  got = so_far.got ++ piece;
-  reads = Consumes-trans l m n so_far.got piece so_far.reads read;
-  reader = state ∙ ap (λ (q : Reading). after q piece) so_far.reader ∙ sym (after-append r so_far.got piece);
-  goes = subst (λ xs. Goes b x xs z [] t v) (given-two r s so_far.got piece so_far.reader)
-      (Goes-trans b x y z (given r so_far.got ++ given s piece) (given s piece) [] t u v (Goes-more b x y (given r so_far.got) [] (given s piece) t u so_far.goes) goes);
-}
-
--- a piece at which it broke off
-pub ReadsSome-piece : {S : Type 0} (b : Behaviour S) (x y : Running S) (r s : Reading) (l m n t u v : Option (List ℕ)) (piece : List ℕ) → Reads b x r y s l m t u → Consumes m n piece
-    → Breaks b y (given s piece) u v → ReadsSome b x r l n t v
-ReadsSome-piece b x y r s l m n t u v piece so_far read breaks = record {
-  got = so_far.got ++ piece;
-  reads = Consumes-trans l m n so_far.got piece so_far.reads read;
-  breaks = subst (λ xs. Breaks b x xs t v) (given-two r s so_far.got piece so_far.reader)
-      (Breaks-after b x y (given r so_far.got ++ given s piece) (given s piece) t u v (Goes-more b x y (given r so_far.got) [] (given s piece) t u so_far.goes) breaks);
-}
-
--- all text was written
-pub Reads-flushed : {S : Type 0} (b : Behaviour S) (x y z : Running S) (r s : Reading) (l m t u v : Option (List ℕ)) → Reads b x r y s l m t u → Appends u v y.text.items
-    → z.text.items ≡ [] → z.node ≡ y.node → z.ended ≡ y.ended → z.sends ≡ y.sends → Reads b x r z s l m t v
-Reads-flushed b x y z r s l m t u v so_far written empty node ended out = record {
-  got = so_far.got;
-  reads = so_far.reads;
-  reader = so_far.reader;
-  goes = Goes-flushed b x y z (given r so_far.got) [] t u v so_far.goes written empty node ended out;
-}
-
--- a write at which it broke off
-pub ReadsSome-flushed : {S : Type 0} (b : Behaviour S) (x y : Running S) (r s : Reading) (l m t u v : Option (List ℕ)) → Reads b x r y s l m t u → AppendsPrefix u v y.text.items
-    → ReadsSome b x r l m t v
-ReadsSome-flushed b x y r s l m t u v so_far written = record {
-  got = so_far.got;
-  reads = so_far.reads;
-  breaks = Breaks-after b x y (given r so_far.got) [] t u v so_far.goes (Breaks-held b y [] u v written);
-}
-
--- what was read so far, as what it broke off with
-pub ReadsSome-reads : {S : Type 0} (b : Behaviour S) (x y : Running S) (r s : Reading) (l m t u : Option (List ℕ)) → Reads b x r y s l m t u → ReadsSome b x r l m t u
-ReadsSome-reads b x y r s l m t u so_far = record { got = so_far.got; reads = so_far.reads; breaks = Breaks-goes b x y (given r so_far.got) [] t u so_far.goes }
-
 -- a part of a piece and what stands behind it
 pub Consumes-part : (rest part behind : List ℕ) (n : ℕ) → part ≡ take n rest → behind ≡ drop n rest → Consumes (Some rest) (Some behind) part
 Consumes-part rest part behind n front back = sym (take-append-drop n rest) ∙ ap (λ l. l ++ drop n rest) (sym front) ∙ ap (λ l. part ++ l) (sym back)
+
+pub Consumes-all : (rest : List ℕ) → Consumes (Some rest) (Some []) rest
+Consumes-all rest = sym (append-nil rest)
 
 -- behind a refusal nothing is read
 after-stays : (s : Reading) (f : FeedFault) (bs : List ℕ) → s.fault ≡ Some f → after s bs ≡ s
@@ -92,27 +35,148 @@ given-stays : (s : Reading) (f : FeedFault) (bs : List ℕ) → s.fault ≡ Some
 given-stays s f [] is = refl
 given-stays s f (b ∷ bs) is = ap (λ (o : Option FeedFault). gives o s b ++ given (next o s b) bs) is ∙ given-stays s f bs is
 
--- a refusal within a piece is one of the piece
-pub after-stopped : {S : Type 0} (b : Behaviour S) (x y : Running S) (r s : Reading) (piece rest : List ℕ) (t u : Option (List ℕ)) (f : FeedFault) → Reads b x r y s (Some piece) (Some rest) t u
-    → s.fault ≡ Some f → s ≡ after r piece
-after-stopped b x y r s piece rest t u f so_far stopped =
-    sym (ap (after r) so_far.reads ∙ after-append r so_far.got rest ∙ ap (λ (q : Reading). after q rest) (sym so_far.reader) ∙ after-stays s f rest stopped)
+none-some : {A B : Type 0} (x : A) (fault : Option A) → fault ≡ Some x → fault ≡ None → B
+none-some x fault is none = absurd (let both : Some x ≡ None = sym is ∙ none in cc)
 
-pub Goes-stopped : {S : Type 0} (b : Behaviour S) (x y : Running S) (r s : Reading) (piece rest : List ℕ) (t u : Option (List ℕ)) (f : FeedFault) → Reads b x r y s (Some piece) (Some rest) t u
-    → s.fault ≡ Some f → Goes b x (given r piece) y [] t u
-Goes-stopped b x y r s piece rest t u f so_far stopped =
-    let whole : given r piece ≡ given r so_far.got =
-    ap (given r) so_far.reads ∙ given-append r so_far.got rest ∙ ap (λ (q : Reading). given r so_far.got ++ given q rest) (sym so_far.reader)
-    ∙ ap (λ (l : List Rec). given r so_far.got ++ l) (given-stays s f rest stopped) ∙ append-nil (given r so_far.got) in
-    subst (λ xs. Goes b x xs y [] t u) (sym whole) so_far.goes
+-- all of a piece was read, or of the rest of one
+pub HasTaken-after : (r s next : Reading) (got piece rest : List ℕ) (fault : Option LineFault) → piece ≡ got ++ rest → s ≡ after r got
+    → s.taken + length rest ≡ r.taken + length piece → s.input_limit ≡ r.input_limit → HasTaken s next rest fault → HasTaken r next piece fault
+HasTaken-after r s next got piece rest fault splits reader count limit took = record {
+  state = took.state ∙ ap (λ (q : Reading). after q rest) reader ∙ sym (after-append r got rest) ∙ sym (ap (after r) splits);
+  refusal = took.refusal;
+  taken = λ none. took.taken none ∙ count;
+  room = λ none. subst (λ n. next.taken ≤ n) limit (took.room none);
+}
 
--- what broke off within a piece
-pub Breaks-part : {S : Type 0} (b : Behaviour S) (x : Running S) (r : Reading) (piece rest : List ℕ) (t u : Option (List ℕ)) → ReadsSome b x r (Some piece) (Some rest) t u → Breaks b x (given r piece) t u
-Breaks-part b x r piece rest t u so_far =
-    subst (λ xs. Breaks b x xs t u) (sym (ap (given r) so_far.reads ∙ given-append r so_far.got rest))
-    (Breaks-more b x (given r so_far.got) (given (after r so_far.got) rest) t u so_far.breaks)
+-- a limit was passed in a part of it
+pub HasTaken-stopped : (r s next : Reading) (got piece part behind : List ℕ) (fault : LineFault) → piece ≡ got ++ (part ++ behind) → s ≡ after r got
+    → HasTaken s next part (Some fault) → HasTaken r next piece (Some fault)
+HasTaken-stopped r s next got piece part behind fault splits reader took = record {
+  state = sym (
+      ap (after r) splits ∙ after-append r got (part ++ behind) ∙ ap (λ (q : Reading). after q (part ++ behind)) (sym reader)
+      ∙ after-append s part behind ∙ ap (λ (q : Reading). after q behind) (sym took.state) ∙ after-stays next (Passed fault) behind took.refusal);
+  refusal = took.refusal;
+  taken = λ none. none-some fault (Some fault) refl none;
+  room = λ none. none-some fault (Some fault) refl none;
+}
 
--- what holds anyway holds of an answer that is a refusal
-pub OnErr-any : {A E : Type 0} {P : Type 0} (answer : Result A E) → P → OnErr answer P
-OnErr-any (Ok a) p = tt
-OnErr-any (Err e) p = p
+-- nothing more was to be read of it
+pub HasTaken-whole : (r s : Reading) (got piece rest : List ℕ) → piece ≡ got ++ rest → rest ≡ [] → s ≡ after r got → s.fault ≡ None
+    → s.taken + length rest ≡ r.taken + length piece → s.taken ≤ r.input_limit → HasTaken r s piece None
+HasTaken-whole r s got piece rest splits empty reader going count room = record {
+  state = reader ∙ ap (after r) (sym (splits ∙ ap (λ l. got ++ l) empty ∙ append-nil got));
+  refusal = going;
+  taken = λ none. omega (arith, count, ap length empty);
+  room = λ none. room;
+}
+
+module _ {N W : Type 0} (stands : Job N → W → List Rec → List ℕ → Type 0) where
+  -- nothing was read yet
+  pub Reads-none : (w : W) (r : Reading) (l t : Option (List ℕ)) → Reads stands w r w r l l t t
+  Reads-none w r l t = record { got = []; reads = Consumes-nil l; reader = refl; goes = Goes-refl stands w t }
+
+  -- a read that failed
+  pub Reads-kept : (w v : W) (r s : Reading) (l m n t u : Option (List ℕ)) → Reads stands w r v s l m t u → Keeps m n → Reads stands w r v s l n t u
+  Reads-kept w v r s l m n t u so_far kept =
+      record { got = so_far.got; reads = Consumes-kept l m n so_far.got so_far.reads kept; reader = so_far.reader; goes = so_far.goes }
+
+  -- a read that gave nothing
+  pub Reads-nothing : (w v : W) (r s : Reading) (l m n t u : Option (List ℕ)) (piece : List ℕ) → Reads stands w r v s l m t u → Consumes m n piece → piece ≡ []
+      → Reads stands w r v s l n t u
+  Reads-nothing w v r s l m n t u piece so_far read empty = record {
+    got = so_far.got;
+    reads = subst (Consumes l n) (ap (λ p. so_far.got ++ p) empty ∙ append-nil so_far.got) (Consumes-trans l m n so_far.got piece so_far.reads read);
+    reader = so_far.reader;
+    goes = so_far.goes;
+  }
+
+  -- a piece more
+  pub Reads-piece : (w v u : W) (r s next : Reading) (l m n t t' t'' : Option (List ℕ)) (piece : List ℕ) → Reads stands w r v s l m t t' → Consumes m n piece
+      → next ≡ after s piece → Goes stands v (given s piece) u t' t'' → Reads stands w r u next l n t t''
+  Reads-piece w v u r s next l m n t t' t'' piece so_far read state goes = record {
+    got = so_far.got ++ piece;
+    reads = Consumes-trans l m n so_far.got piece so_far.reads read;
+    reader = state ∙ ap (λ (q : Reading). after q piece) so_far.reader ∙ sym (after-append r so_far.got piece);
+    goes = Goes-from stands w u (given r so_far.got ++ given s piece) (given r (so_far.got ++ piece)) t t'' (given-two r s so_far.got piece so_far.reader)
+        (Goes-trans stands w v u (given r so_far.got) (given s piece) t t' t'' so_far.goes goes);
+  }
+
+  -- a piece at which it broke off
+  pub ReadsSome-piece : (w v : W) (r s : Reading) (halt : Halt) (l m n t t' t'' : Option (List ℕ)) (piece : List ℕ) → Reads stands w r v s l m t t' → Consumes m n piece
+      → Breaks stands v (given s piece) halt t' t'' → ReadsSome stands w r halt l n t t''
+  ReadsSome-piece w v r s halt l m n t t' t'' piece so_far read breaks = record {
+    got = so_far.got ++ piece;
+    reads = Consumes-trans l m n so_far.got piece so_far.reads read;
+    breaks = Breaks-from stands w (given r so_far.got ++ given s piece) (given r (so_far.got ++ piece)) halt t t'' (given-two r s so_far.got piece so_far.reader)
+        (Breaks-after stands w v (given r so_far.got) (given s piece) halt t t' t'' so_far.goes breaks);
+  }
+
+  -- a pause behind it
+  pub Reads-paused : (w v u : W) (r s : Reading) (l m t t' t'' : Option (List ℕ)) → Reads stands w r v s l m t t' → Goes stands v [] u t' t'' → Reads stands w r u s l m t t''
+  Reads-paused w v u r s l m t t' t'' so_far goes = record {
+    got = so_far.got;
+    reads = so_far.reads;
+    reader = so_far.reader;
+    goes = Goes-from stands w u (given r so_far.got ++ []) (given r so_far.got) t t'' (append-nil (given r so_far.got))
+        (Goes-trans stands w v u (given r so_far.got) [] t t' t'' so_far.goes goes);
+  }
+
+  -- one at which it broke off
+  pub ReadsSome-paused : (w v : W) (r s : Reading) (halt : Halt) (l m t t' t'' : Option (List ℕ)) → Reads stands w r v s l m t t' → Breaks stands v [] halt t' t''
+      → ReadsSome stands w r halt l m t t''
+  ReadsSome-paused w v r s halt l m t t' t'' so_far breaks = record {
+    got = so_far.got;
+    reads = so_far.reads;
+    breaks = Breaks-from stands w (given r so_far.got ++ []) (given r so_far.got) halt t t'' (append-nil (given r so_far.got))
+        (Breaks-after stands w v (given r so_far.got) [] halt t t' t'' so_far.goes breaks);
+  }
+
+  -- all of a piece was read, and of what stands behind it no byte counts
+  pub Goes-whole : (w v : W) (r s : Reading) (piece rest : List ℕ) (t u : Option (List ℕ)) → Reads stands w r v s (Some piece) (Some rest) t u → rest ≡ []
+      → Goes stands w (given r piece) v t u
+  Goes-whole w v r s piece rest t u so_far empty =
+      Goes-from stands w v (given r so_far.got) (given r piece) t u
+      (ap (given r) (sym (so_far.reads ∙ ap (λ l. so_far.got ++ l) empty ∙ append-nil so_far.got))) so_far.goes
+
+  -- a refusal within a piece is one of the piece
+  pub Goes-stopped : (w v : W) (r s : Reading) (piece rest : List ℕ) (t u : Option (List ℕ)) (f : FeedFault) → Reads stands w r v s (Some piece) (Some rest) t u
+      → s.fault ≡ Some f → Goes stands w (given r piece) v t u
+  Goes-stopped w v r s piece rest t u f so_far stopped =
+      let whole : given r piece ≡ given r so_far.got =
+      ap (given r) so_far.reads ∙ given-append r so_far.got rest ∙ ap (λ (q : Reading). given r so_far.got ++ given q rest) (sym so_far.reader)
+      ∙ ap (λ (l : List Rec). given r so_far.got ++ l) (given-stays s f rest stopped) ∙ append-nil (given r so_far.got) in
+      Goes-from stands w v (given r so_far.got) (given r piece) t u (sym whole) so_far.goes
+
+  -- what broke off within a piece
+  pub Breaks-part : (w : W) (r : Reading) (halt : Halt) (piece rest : List ℕ) (t u : Option (List ℕ)) → ReadsSome stands w r halt (Some piece) (Some rest) t u
+      → Breaks stands w (given r piece) halt t u
+  Breaks-part w r halt piece rest t u so_far =
+      Breaks-from stands w (given r so_far.got ++ given (after r so_far.got) rest) (given r piece) halt t u
+      (sym (ap (given r) so_far.reads ∙ given-append r so_far.got rest))
+      (Breaks-more stands w (given r so_far.got) (given (after r so_far.got) rest) halt t u so_far.breaks)
+
+  -- none of these records was taken yet
+  pub Hands-none : (w : W) (rs : List Rec) (t : Option (List ℕ)) → Hands stands w rs w rs t t
+  Hands-none w rs t = record { first = []; splits = refl; goes = Goes-refl stands w t }
+
+  -- one more was
+  pub Hands-more : (w v u : W) (rs rest others : List Rec) (x : Rec) (t t' t'' : Option (List ℕ)) → Hands stands w rs v rest t t' → rest ≡ x ∷ others
+      → Goes stands v (x ∷ []) u t' t'' → Hands stands w rs u others t t''
+  Hands-more w v u rs rest others x t t' t'' so_far is goes = record {
+    first = so_far.first ++ x ∷ [];
+    splits = so_far.splits ∙ ap (λ l. so_far.first ++ l) is ∙ sym (append_assoc so_far.first (x ∷ []) others);
+    goes = Goes-trans stands w v u so_far.first (x ∷ []) t t' t'' so_far.goes goes;
+  }
+
+  -- all were
+  pub Goes-hands : (w v : W) (rs rest : List Rec) (t u : Option (List ℕ)) → Hands stands w rs v rest t u → rest ≡ [] → Goes stands w rs v t u
+  Goes-hands w v rs rest t u so_far empty =
+      Goes-from stands w v so_far.first rs t u (sym (so_far.splits ∙ ap (λ l. so_far.first ++ l) empty ∙ append-nil so_far.first)) so_far.goes
+
+  -- it broke off at the next
+  pub Breaks-hands : (w v : W) (rs rest others : List Rec) (x : Rec) (halt : Halt) (t t' t'' : Option (List ℕ)) → Hands stands w rs v rest t t' → rest ≡ x ∷ others
+      → Breaks stands v (x ∷ []) halt t' t'' → Breaks stands w rs halt t t''
+  Breaks-hands w v rs rest others x halt t t' t'' so_far is breaks =
+      Breaks-from stands w ((so_far.first ++ x ∷ []) ++ others) rs halt t t''
+      (append_assoc so_far.first (x ∷ []) others ∙ ap (λ l. so_far.first ++ l) (sym is) ∙ sym so_far.splits)
+      (Breaks-more stands w (so_far.first ++ x ∷ []) others halt t t'' (Breaks-after stands w v so_far.first (x ∷ []) halt t t' t'' so_far.goes breaks))

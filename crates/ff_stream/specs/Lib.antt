@@ -1,3 +1,11 @@
+pub mod Streams
+pub mod Jobs
 pub mod Endings
-pub mod Running
+pub mod Works
 pub mod Reads
+pub mod Intakes
+pub mod Texts
+pub mod Nodes
+pub mod Flows
+-- lemmas: nothing to trust
+pub mod FlowLaws

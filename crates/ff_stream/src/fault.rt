@@ -1,22 +1,24 @@
-// What ends the work within a run.
-use crate::report::StreamFault;
+// What breaks a run off.
 use ff_io::Failed;
-use ff_rec::{LineFault, NoMemory};
+use ff_rec::NoMemory;
 use std::alloc::AllocError;
 
-/// Why no more is done.
+/// Why the work breaks off before its end.
 #[derive(Clone, Copy, Debug, PartialEq, Eq, Hash)]
-pub(crate) enum Halt {
+pub enum Halt {
+    /// The sink failed. Nothing more is read.
     Write,
     NoMemory,
 }
 
-/// Why no more is read. What was read is brought to its end.
+/// Why a run ended without its answer.
 #[derive(Clone, Copy, Debug, PartialEq, Eq, Hash)]
-pub(crate) enum Stop {
-    End,
-    Read,
-    Line(LineFault),
+pub enum RunFault {
+    /// A wrap has more tasks than its limit. Nothing was written.
+    Tasks,
+    /// The sink failed. Nothing more is read.
+    Write,
+    NoMemory,
 }
 
 impl From<NoMemory> for Halt {
@@ -41,38 +43,49 @@ impl From<Failed> for Halt {
     }
 }
 
-impl From<Halt> for StreamFault {
+impl From<Halt> for RunFault {
     ghost use Rattle.std.specs.Prelude.{◌≡◌};
-    ghost use Rattle.ff_stream.specs.Reads.{halted};
+    ghost use Rattle.ff_stream.specs.Endings.{halted};
 
     ghost from_gives = { λ halt fault. fault ≡ halted halt };
 
-    fn from(halt: Halt) -> StreamFault {
+    fn from(halt: Halt) -> RunFault {
         match halt {
-            Halt::Write => StreamFault::Write,
-            Halt::NoMemory => StreamFault::NoMemory,
+            Halt::Write => RunFault::Write,
+            Halt::NoMemory => RunFault::NoMemory,
         }
     }
 }
 
-impl From<NoMemory> for StreamFault {
+impl From<Failed> for RunFault {
     ghost use Rattle.std.specs.Prelude.{◌≡◌};
-    ghost use Rattle.ff_stream.specs.declared.report.StreamFault.TheVariants.{NoMemory};
+    ghost use Rattle.ff_stream.specs.declared.fault.RunFault.TheVariants.{Write};
 
-    ghost from_gives = { λ _ fault. fault ≡ NoMemory };
+    ghost from_gives = { λ _ fault. fault ≡ Write };
 
-    fn from(_: NoMemory) -> StreamFault {
-        StreamFault::NoMemory
+    fn from(_: Failed) -> RunFault {
+        RunFault::Write
     }
 }
 
-impl From<AllocError> for StreamFault {
+impl From<NoMemory> for RunFault {
     ghost use Rattle.std.specs.Prelude.{◌≡◌};
-    ghost use Rattle.ff_stream.specs.declared.report.StreamFault.TheVariants.{NoMemory};
+    ghost use Rattle.ff_stream.specs.declared.fault.RunFault.TheVariants.{NoMemory};
 
     ghost from_gives = { λ _ fault. fault ≡ NoMemory };
 
-    fn from(_: AllocError) -> StreamFault {
-        StreamFault::NoMemory
+    fn from(_: NoMemory) -> RunFault {
+        RunFault::NoMemory
+    }
+}
+
+impl From<AllocError> for RunFault {
+    ghost use Rattle.std.specs.Prelude.{◌≡◌};
+    ghost use Rattle.ff_stream.specs.declared.fault.RunFault.TheVariants.{NoMemory};
+
+    ghost from_gives = { λ _ fault. fault ≡ NoMemory };
+
+    fn from(_: AllocError) -> RunFault {
+        RunFault::NoMemory
     }
 }

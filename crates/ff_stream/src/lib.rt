@@ -1,17 +1,26 @@
-//! One node over a stream: records are read in pieces, handed to the node, and what it sends is written as they come.
+//! How the records of a stream are worked on: they are read in pieces and handed over as they come, and what is sent for
+//! them is written. How a run ends is said here once, for every way in which the work is done.
 #![tactic(auto)]
 
-mod batch;
-mod drain;
+mod ending;
 mod fault;
-mod print;
-mod pump;
-mod report;
+mod flow;
+mod intake;
+mod limits;
+mod piece;
 mod run;
-mod running;
+mod stream;
+mod text;
+mod work;
+mod write;
 
-pub use report::{Report, StreamFault};
-pub use run::run_stream;
+pub use ending::{Ending, Report, Stop};
+pub use fault::{Halt, RunFault};
+pub use run::run_work;
+pub use stream::run_stream;
+pub use text::Text;
+pub use work::Work;
+pub use write::write_records;
 
 #[cfg(test)]
 mod tests;

@@ -1,41 +1,66 @@
-// A node over a source, to a sink.
-ghost use Rattle.std.specs.Prelude.{◌≡◌, ◌≤◌};
-ghost use Rattle.ff_stream.specs.Endings.{HasRun, EndsWith, CountsInput, output_count};
+// A run over a source, to a sink.
+ghost use Rattle.std.specs.Prelude.{◌≡◌, ◌<◌, [], length};
+ghost use Rattle.ff_rec.specs.Limits.{ReadingLaw};
+ghost use Rattle.ff_rec.specs.Reading.{opening};
+ghost use Rattle.ff_net.specs.Versions.{line_bytes, input_bytes};
+ghost use Rattle.ff_stream.specs.Endings.{Ran, CountsInput, output_count};
+ghost use Rattle.ff_stream.specs.Jobs.{Job};
+ghost use Rattle.ff_stream.specs.Streams.{streams};
 
-use crate::drain::drain;
-use crate::report::{Report, StreamFault};
-use crate::running::open;
+use crate::intake::{take_all, take_last};
+use crate::limits::line_limit;
+use crate::{Ending, RunFault, Work};
 use ff_io::{Sink, Source};
+use ff_net::Version;
 use ff_node::Node;
-use ff_rec::{LineReader, reading_is_cutting};
+use ff_rec::{LONGEST_INPUT, LineReader, reading_is_cutting};
 use std::alloc::Global;
-
-/// The most bytes of an input.
-const INPUT_LIMIT: u64 = 1 << 40;
 
 /// How many bytes a call reads at once.
 const PIECE: usize = 65_536;
 
-/// Runs a node, from its opening state, over the records of a source, and writes the text of what it sends to a sink, as
-/// the records come. An input has at most 2^40 bytes, and each line at most `line_limit`, its newline not counted.
-pub fn run_stream<N: Node, I: Source, O: Sink>(
+/// Reads the records of a source within the limits of a version and has the work done with them: the table of a run holds
+/// for every job that it does and of which it did nothing yet.
+pub fn run_work<N: Node, W: Work<N>, I: Source, O: Sink>(
     alloc: Global,
-    worker: N,
-    line_limit: usize,
-    keep: bool,
+    version: Version,
+    work: W,
     source: &mut I,
     sink: &mut O,
-) -> Result<Report, StreamFault>
-    requires { 1 ≤ line_limit }
-    ensures run { HasRun N.does worker line_limit keep (I.left source.old) (I.left source.new) (I.ended source.new)
-        (O.taken sink.old) (O.taken sink.new) result }
-    ensures end { EndsWith result (I.left source.new) (I.ended source.new) }
+) -> Result<Ending, RunFault>
+    ensures run { (j : Job N) → j.version ≡ version → W.stands j work [] []
+        → Ran j (streams I.left I.ended I.faults O.taken
+        source.old source.new sink.old sink.new) result }
     ensures input_faults { CountsInput (I.faults source.old) (I.faults source.new) result }
     ensures output_faults { O.faults sink.new ≡ output_count (O.faults sink.old) result }
 {
     let mut room = vec![in alloc; 0u8; PIECE]?;
-    let reader = LineReader::new(alloc, line_limit, INPUT_LIMIT)?;
-    let mut running = open(alloc, worker, keep);
+    let reader = LineReader::new(alloc, line_limit(version), LONGEST_INPUT)?;
     reading_is_cutting();
-    drain(alloc, &mut room, reader, &mut running, source, sink)
+    work_through(alloc, version, &mut room, reader, work, source, sink)
+}
+
+// Has the work done from the first byte on.
+fn work_through<N: Node, W: Work<N>, I: Source, O: Sink>(
+    alloc: Global,
+    version: Version,
+    room: &mut [u8],
+    mut reader: LineReader,
+    mut work: W,
+    source: &mut I,
+    sink: &mut O,
+) -> Result<Ending, RunFault>
+    requires room { 0 < length room.old }
+    requires reader { reader ≡ opening (line_bytes version) input_bytes }
+    requires cutting { ReadingLaw }
+    ensures run { (j : Job N) → j.version ≡ version → W.stands j work [] []
+        → Ran j (streams I.left I.ended I.faults O.taken
+        source.old source.new sink.old sink.new) result }
+    ensures input_faults { CountsInput (I.faults source.old) (I.faults source.new) result }
+    ensures output_faults { O.faults sink.new ≡ output_count (O.faults sink.old) result }
+{
+    let stop = take_all(alloc, room, &mut reader, &mut work, source, sink)?;
+    take_last(alloc, reader, stop, &mut work, sink)?;
+    let report = work.finish(alloc, sink)?;
+    Ok(Ending { stop, report })
 }

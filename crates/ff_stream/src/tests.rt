@@ -1,24 +1,23 @@
 // What no clause says: that the calls succeed while memory is there, and that the clauses mean these bytes.
-mod faults;
+mod endings;
 mod nodes;
+mod texts;
 
-use crate::{Report, StreamFault, run_stream};
+use crate::{Ending, RunFault, Stop, run_stream};
 use ff_io::{MemSink, MemSource};
+use ff_net::Version;
 use ff_node::Node;
-use ff_rec::LineFault;
 use nodes::{Gate, Last};
 use std::alloc::Global;
 use std::process::Abort;
 use std::test::Fail;
 
-// The devices of a run: the most that a read gives, the read that fails, counted from 1, what the sink takes in all, and
-// the most bytes of a line.
+// The devices of a run: the most that a read gives, the read that fails, counted from 1, and what the sink takes in all.
 #[derive(Clone, Copy)]
 struct Devices {
     most: usize,
     fails: u64,
     budget: usize,
-    line: usize,
 }
 
 // Devices that do all that is asked of them.
@@ -26,115 +25,91 @@ const SOUND: Devices = Devices {
     most: 65_536,
     fails: 0,
     budget: 200_000,
-    line: 1000,
 };
 
+// How a run ends.
 #[derive(Clone, Copy, Debug, PartialEq, Eq)]
 enum Kind {
-    Done,
-    Write,
-    Read,
-    Line(LineFault),
-    NoMemory,
+    Ended(Stop),
+    Broken(RunFault),
 }
 
-// What a run answers, what the sink took, and how many records were rejected.
-#[derive(Clone, Copy)]
-struct Want<'a> {
-    kind: Kind,
-    out: &'a [u8],
-    rejected: u64,
-}
+const DONE: Kind = Kind::Ended(Stop::End);
 
-// A whole run that writes this and rejects nothing.
-fn done(out: &[u8]) -> Want {
-    Want {
-        kind: Kind::Done,
-        out,
-        rejected: 0,
-    }
-}
+const WRITE: Kind = Kind::Broken(RunFault::Write);
 
-// The answer, and how many records it tells.
-fn summary(answer: Result<Report, StreamFault>) -> (Kind, u64) {
+// How a run ends, and how many records it tells.
+fn summary(answer: &Result<Ending, RunFault>) -> (Kind, u64) {
     match answer {
-        Ok(report) => (Kind::Done, report.rejected),
-        Err(StreamFault::Write) => (Kind::Write, 0),
-        Err(StreamFault::Read(report)) => (Kind::Read, report.rejected),
-        Err(StreamFault::Line(fault, report)) => (Kind::Line(fault), report.rejected),
-        Err(StreamFault::NoMemory) => (Kind::NoMemory, 0),
+        Ok(ending) => (Kind::Ended(ending.stop), ending.report.rejected),
+        Err(fault) => (Kind::Broken(*fault), 0),
     }
 }
 
-// Runs the node and compares.
-fn check<N: Node>(
+// Runs a node over an input and compares: how it ends, what the sink took, and how many records were rejected.
+fn check<M: Node>(
     rt: &impl Abort,
     alloc: Global,
-    node: N,
+    node: M,
     input: &[u8],
     by: Devices,
-    want: Want,
+    kind: Kind,
+    out: &[u8],
+    rejected: u64,
 ) -> Result<(), Fail> {
     assert!(rt; 1 <= by.most);
-    assert!(rt; 1 <= by.line);
     let bytes = Vec::from_slice(alloc, input)?;
     let mut source = MemSource::new(bytes, by.most, vec![in alloc; by.fails]?);
     let mut sink = MemSink::new(alloc, by.budget, Vec::new(alloc))?;
-    let answer = run_stream(alloc, node, by.line, false, &mut source, &mut sink);
-    assert_eq!(rt; summary(answer), (want.kind, want.rejected));
-    assert_eq!(rt; sink.taken(), want.out);
+    let answer = run_stream::<Gate, M, MemSource, MemSink>(
+        alloc,
+        node,
+        Version::One,
+        false,
+        &mut source,
+        &mut sink,
+    );
+    assert_eq!(rt; summary(&answer), (kind, rejected));
+    assert_eq!(rt; sink.taken(), out);
     Ok(())
 }
 
+// Whole inputs, in pieces of every size. A gate of `most` records ends behind so many, and one of 0 never does.
 #[test]
-fn pieces_of_every_size(rt: HostRuntime) -> Result<(), Fail> {
-    for most in 1..9 {
-        let by = Devices { most, ..SOUND };
-        let want = Want {
-            rejected: 1,
-            ..done(b"1\n\n\n345\n")
-        };
-        check(&rt, rt.alloc(), Gate::open(), b"1\n2\ta\n\n\n345", by, want)?;
-        check(
-            &rt,
-            rt.alloc(),
-            Last::new(),
-            b"1\n2\ta\n",
-            by,
-            done(b"2\ta\n"),
-        )?;
-        check(&rt, rt.alloc(), Last::new(), b"1\n2\n3", by, done(b"3\n"))?;
+fn whole_inputs(rt: HostRuntime) -> Result<(), Fail> {
+    for (most, input, out, rejected) in [
+        (0, b"".as_slice(), b"".as_slice(), 0),
+        (0, b"\n", b"\n", 0),
+        (0, b"1", b"1\n", 0),
+        (0, b"\r\n\xff", b"\r\n\xff\n", 0),
+        (0, b"1\n2\ta\n\n\n345", b"1\n\n\n345\n", 1),
+        (2, b"1\n2\n3\n4", b"1\n2\n", 0),
+        (2, b"1\n2\na\tb\n", b"1\n2\n", 0),
+        (5, b"1\n2\n", b"1\n2\n", 0),
+    ] {
+        for size in 1..10 {
+            let by = Devices {
+                most: size,
+                ..SOUND
+            };
+            check(
+                &rt,
+                rt.alloc(),
+                Gate::of(most),
+                input,
+                by,
+                DONE,
+                out,
+                rejected,
+            )?;
+        }
     }
-    Ok(())
-}
-
-#[test]
-fn small_inputs(rt: HostRuntime) -> Result<(), Fail> {
     for (input, out) in [
         (b"".as_slice(), b"".as_slice()),
-        (b"\n", b"\n"),
-        (b"1", b"1\n"),
-        (b"1\n", b"1\n"),
-        (b"\r\n\xff", b"\r\n\xff\n"),
+        (b"1\n2\ta\n", b"2\ta\n"),
+        (b"1\n2\n3", b"3\n"),
     ] {
-        check(&rt, rt.alloc(), Gate::open(), input, SOUND, done(out))?;
-    }
-    check(&rt, rt.alloc(), Last::new(), b"", SOUND, done(b""))
-}
-
-#[test]
-fn a_node_that_ends_early(rt: HostRuntime) -> Result<(), Fail> {
-    for most in [1, 3, 65_536] {
-        let by = Devices { most, ..SOUND };
-        check(
-            &rt,
-            rt.alloc(),
-            Gate::of(2),
-            b"1\n2\n3\n4",
-            by,
-            done(b"1\n2\n"),
-        )?;
-        check(&rt, rt.alloc(), Gate::of(5), b"1\n2\n", by, done(b"1\n2\n"))?;
+        check(&rt, rt.alloc(), Last::new(), input, SOUND, DONE, out, 0)?;
     }
     Ok(())
 }
@@ -147,10 +122,17 @@ fn rejected_records_are_kept(rt: HostRuntime) -> Result<(), Fail> {
         let bytes = Vec::from_slice(alloc, b"a\tb\n1\nc\t\n")?;
         let mut source = MemSource::new(bytes, 4, Vec::new(alloc));
         let mut sink = MemSink::new(alloc, 10, Vec::new(alloc))?;
-        let answer = run_stream(alloc, Gate::open(), 10, keep, &mut source, &mut sink);
-        let Ok(mut report) = answer else {
-            return Err(Fail::from("refused"));
+        let Ok(ending) = run_stream::<Gate, Gate, MemSource, MemSink>(
+            alloc,
+            Gate::open(),
+            Version::One,
+            keep,
+            &mut source,
+            &mut sink,
+        ) else {
+            return Err(Fail::from("it broke off"));
         };
+        let mut report = ending.report;
         assert_eq!(rt; report.rejected, 2);
         assert_eq!(rt; report.kept.len(), if keep { 2 } else { 0 });
         if keep {
@@ -162,28 +144,4 @@ fn rejected_records_are_kept(rt: HostRuntime) -> Result<(), Fail> {
         assert_eq!(rt; sink.taken(), b"1\n".as_slice());
     }
     Ok(())
-}
-
-// More than a piece, and more than is held of a text.
-#[test]
-fn long_stream(rt: HostRuntime) -> Result<(), Fail> {
-    let alloc = rt.alloc();
-    let mut input = Vec::new(alloc);
-    for k in 0..15_000u64 {
-        input.extend_from_slice(if k % 2 == 0 {
-            b"even\n".as_slice()
-        } else {
-            b"uneven\n"
-        })?;
-    }
-    check(&rt, alloc, Gate::open(), &input, SOUND, done(&input))?;
-    let by = Devices {
-        budget: 70_000,
-        ..SOUND
-    };
-    let want = Want {
-        kind: Kind::Write,
-        ..done(input.as_slice().get(..70_000).ok_or("short")?)
-    };
-    check(&rt, alloc, Gate::open(), &input, by, want)
 }

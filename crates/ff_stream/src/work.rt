@@ -1,0 +1,51 @@
+// How the records of a stream are worked on.
+ghost use Rattle.std.specs.Prelude.{IsTrue, IfErr, OnOk, ◌≡◌, [], ◌∷◌};
+
+use crate::{Halt, Report, RunFault};
+use ff_io::Sink;
+use ff_node::Node;
+use ff_rec::Record;
+use std::alloc::Global;
+
+/// A way to do the work of a run: it takes the records of a stream one after another as they are read, and writes what is
+/// sent for them then or at the end.
+pub trait Work<N: Node>: Drop {
+    ghost use Rattle.std.specs.Prelude.{ℕ, List, IsTrue, IfErr, OnOk, ◌≡◌, [], ◌∷◌};
+    ghost use Rattle.ff_rec.specs.Lines.{Rec};
+    ghost use Rattle.ff_stream.specs.Endings.{output_count};
+    ghost use Rattle.ff_stream.specs.Jobs.{Job};
+    ghost use Rattle.ff_stream.specs.Works.{Goes, Breaks, Drops, Finishes, IsOpen, halt_count};
+    ghost use Rattle.ff_stream.specs.declared.fault.Halt.TheVariants.{NoMemory};
+
+    /// In this job it took these records since it began, and these bytes were written.
+    ghost stands: { Job N → Self → List Rec → List ℕ → Type 0 };
+
+    /// Takes a record. After a refusal the work is given up.
+    fn take<O: Sink>(&mut self, r: Record, sink: &mut O) -> Result<(), Halt>
+        ensures ok { OnOk result (Goes stands self.old (r ∷ []) self.new
+            (O.taken sink.old) (O.taken sink.new)) }
+        ensures err { IfErr result (λ halt. Breaks stands self.old (r ∷ []) halt
+            (O.taken sink.old) (O.taken sink.new)) }
+        ensures counts { O.faults sink.new ≡ halt_count (O.faults sink.old) result };
+
+    /// Called where the next records may be long in coming: what is held for the sink is written.
+    fn pause<O: Sink>(&mut self, sink: &mut O) -> Result<(), Halt>
+        ensures ok { OnOk result (Goes stands self.old [] self.new
+            (O.taken sink.old) (O.taken sink.new)) }
+        ensures err { IfErr result (λ halt. Breaks stands self.old [] halt
+            (O.taken sink.old) (O.taken sink.new)) }
+        ensures counts { O.faults sink.new ≡ halt_count (O.faults sink.old) result };
+
+    /// Whether no record that is to come changes anything. Then none need be made.
+    fn drops(&self) -> bool
+        ensures { IsTrue result → Drops stands self.now };
+
+    /// Does what is left behind the last record, and writes the rest.
+    fn finish<O: Sink>(self, alloc: Global, sink: &mut O) -> Result<Report, RunFault>
+        ensures ends { Finishes stands self (O.taken sink.old) (O.taken sink.new) result }
+        ensures counts { O.faults sink.new ≡ output_count (O.faults sink.old) result };
+
+    /// What was written so far begins an answer whatever records follow.
+    ghost opens: { (j : Job N) (w : Self) (xs : List Rec) (front : List ℕ) → stands j w xs front
+        → IsOpen j NoMemory xs front };
+}
