@@ -1,6 +1,2 @@
-pub mod Answering
-pub mod Beginnings
-pub mod Flows
-pub mod Readings
+pub mod Pipelines
 pub mod Wholes
-pub mod Writings

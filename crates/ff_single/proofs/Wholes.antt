@@ -1,107 +1,101 @@
--- How a run ends that read its whole input first.
-use Rattle.std.proofs.Common.{◌≡◌, ℕ, Bool, List, [], Err, inl, inr, refl, sym, subst}
-use Rattle.std.specs.Prelude.{Option, IsSome}
-use Rattle.std.specs.Io.KnownBytes.{Appends}
+-- How a network is run of which nothing is sent before the whole input is read.
+use Rattle.std.proofs.Common.{◌≡◌, ℕ, List, [], ◌∷◌, ◌++◌, Ok, Err, inl, refl, sym, ap, ◌∙◌, append-nil, subst}
+use Rattle.std.specs.Prelude.{Option, Result}
 use Rattle.std.proofs.KnownBytes.{Appends-nil, Keeps-refl}
-use Rattle.ff_io.specs.Bytes.{AppendsPrefix}
-use Rattle.ff_rec.specs.declared.fault.LineFault.{LineFault}
 use Rattle.ff_rec.specs.Lines.{Rec, text}
-use Rattle.ff_net.specs.Meaning.{Fine, Answers}
-use Rattle.ff_net.specs.Versions.{limit_by}
-use Rattle.ff_net.specs.declared.net.Version.{Version}
+use Rattle.ff_net.specs.Meaning.{Fine}
 use Rattle.ff_mean.specs.Runs.{Answered, IsMeant}
 use Rattle.ff_mean.specs.declared.outcome.Outcome.{Outcome}
 use Rattle.ff_mean.specs.declared.outcome.Outcome.TheVariants.{Done, Over}
-use Rattle.ff_stream.specs.declared.report.Report.{Report}
-use Rattle.ff_single.specs.Endings.{Job, HasBegun, HasRun, IsCutShort, IsOverrun, IsReadOut, IsReported, Ran, records_of}
-use Rattle.ff_single.specs.Reads.{HasRead, Stopped, Takes, answer_of, stop_count}
-use Rattle.ff_single.specs.Streams.{streams}
-use Rattle.ff_single.specs.Writes.{halted}
-use Rattle.ff_single.specs.declared.stop.Halt.{Halt}
-use Rattle.ff_single.specs.declared.stop.Halt.TheVariants.{Write, NoMemory}
-use Rattle.ff_single.specs.declared.stop.Stop.{Stop}
-use Rattle.ff_single.specs.declared.stop.Stop.TheVariants.{End, Read, Line}
-use Rattle.ff_single.proofs.Answering.{Answers-mean, HasBegun-cut}
+use Rattle.ff_stream.specs.Endings.{halted}
+use Rattle.ff_stream.specs.FlowLaws.{Answers-mean, Begun-beginning}
+use Rattle.ff_stream.specs.Jobs.{Job}
+use Rattle.ff_stream.specs.Texts.{Writes, WritesSome}
+use Rattle.ff_stream.specs.Works.{Ends, Goes, HasBroken}
+use Rattle.ff_stream.specs.declared.ending.Report.{Report}
+use Rattle.ff_stream.specs.declared.fault.Halt.{Halt}
+use Rattle.ff_stream.specs.declared.fault.Halt.TheVariants.{Write, NoMemory}
+use Rattle.ff_stream.specs.declared.fault.RunFault.{RunFault}
+use Rattle.ff_stream.specs.declared.fault.RunFault.TheVariants.{Tasks, NoMemory as NoMemoryFault}
+use Rattle.ff_single.specs.Wholes.{Gathers}
 
--- some bytes were read, and none were written
-pub HasBegun-taken : {N : Type 0} (j : Job N) (l m : Option (List ℕ)) (ended : Bool) (f g : ℕ) (t : Option (List ℕ)) → Takes l m → HasBegun j (streams l m ended f g t t)
-HasBegun-taken j l m ended f g t some = record { got = some.got; reads = some.reads; front = []; begins = inl refl; writes = Appends-nil t; waits = λ wraps. inl refl }
+-- how work ends of this job, for these records
+Ends-overrun : {N : Type 0} (j : Job N) (xs : List Rec) (t : Option (List ℕ)) → (Fine j.does j.tasks j.net xs → ⊥) → Ends j xs [] t t (Err Tasks)
+Ends-overrun j xs t over = record { over = over; nothing = refl; untouched = Keeps-refl t }
 
-pub Takes-read : {v : _} {l m : _} {ended : _} {stop : _} {xs : _} → HasRead v l m ended stop xs → Takes l m
-Takes-read read = record { got = read.got; reads = read.reads }
+Ends-memory : {N : Type 0} (j : Job N) (xs : List Rec) (t : Option (List ℕ)) → Ends j xs [] t t (Err NoMemoryFault)
+Ends-memory j xs t = record { put = []; taken = Appends-nil t; begun = inl refl }
 
--- an input that was read by one version was read by the same
-pub HasRead-by : (v w : Version) (l m : Option (List ℕ)) (ended : Bool) (stop : Stop) (xs : List Rec) → v ≡ w → HasRead v l m ended stop xs → HasRead w l m ended stop xs
-HasRead-by v w l m ended stop xs is read = subst (λ (u : Version). HasRead u l m ended stop xs) is read
-
--- why no more was read
-IsReadOut-stopped : {N : Type 0} (j : Job N) (l m : Option (List ℕ)) (ended : Bool) (f g : ℕ) (t u : Option (List ℕ)) (stop : Stop) (got : List ℕ)
-    → Stopped stop (limit_by j.version got) ended m → g ≡ stop_count f stop → IsReadOut j (streams l m ended f g t u) got
-IsReadOut-stopped j l m ended f g t u End got stops counts = inr (inl (stops.0, stops.1, stops.2, counts))
-IsReadOut-stopped j l m ended f g t u Read got stops counts = inr (inr (stops.0, stops.1, counts))
-IsReadOut-stopped j l m ended f g t u (Line fault) got stops counts = inl (subst (λ (o : Option LineFault). IsSome o) (sym stops.0) refl, counts)
-
--- a wrap has too many tasks for what was read
-pub IsOverrun-read : {N : Type 0} (j : Job N) (l m : Option (List ℕ)) (ended : Bool) (f g : ℕ) (t : Option (List ℕ)) (stop : Stop) (xs : List Rec) → HasRead j.version l m ended stop xs
-    → (Fine j.does j.tasks j.net xs → ⊥) → g ≡ stop_count f stop → IsOverrun j (streams l m ended f g t t)
-IsOverrun-read j l m ended f g t stop xs read over counts = record {
-  got = read.got;
-  reads = read.reads;
-  over = subst (λ (l : List Rec). Fine j.does j.tasks j.net l → ⊥) read.records over;
-  untouched = Keeps-refl t;
-  read_out = IsReadOut-stopped j l m ended f g t t stop read.got read.stops counts;
-}
-
--- what the network means for what was read is an answer
-Answers-read : {N : Type 0} (j : Job N) (l m : Option (List ℕ)) (ended : Bool) (stop : Stop) (xs ys : List Rec) (number : ℕ) (kept : List Rec) (read : HasRead j.version l m ended stop xs)
-    → IsMeant j.does j.tasks j.keep j.net xs ys number kept → (f g : ℕ) (t u : Option (List ℕ)) → Answers j.does j.tasks j.net (records_of j (streams l m ended f g t u) read.got) ys
-Answers-read j l m ended stop xs ys number kept read meant f g t u =
-    subst (λ (l : List Rec). Answers j.does j.tasks j.net l ys) read.records (Answers-mean j xs ys meant.fine meant.sent)
-
--- a prefix of it was written
-pub IsCutShort-read : {N : Type 0} (j : Job N) (l m : Option (List ℕ)) (ended : Bool) (f g : ℕ) (t u : Option (List ℕ)) (stop : Stop) (xs ys : List Rec) (number : ℕ) (kept : List Rec)
-    → HasRead j.version l m ended stop xs → IsMeant j.does j.tasks j.keep j.net xs ys number kept → AppendsPrefix t u (text ys) → g ≡ stop_count f stop → IsCutShort j (streams l m ended f g t u)
-IsCutShort-read j l m ended f g t u stop xs ys number kept read meant some counts = record {
-  got = read.got;
-  reads = read.reads;
+Ends-written : {N : Type 0} (j : Job N) (xs ys : List Rec) (report : Report) (t u : Option (List ℕ)) → IsMeant j.does j.tasks j.keep j.net xs ys report.rejected report.kept
+    → Writes (text ys) [] t u → Ends j xs [] t u (Ok report)
+Ends-written j xs ys report t u meant writes = record {
+  put = writes.put;
+  taken = writes.taken;
   sent = ys;
-  answers = Answers-read j l m ended stop xs ys number kept read meant f g t u;
-  writes = some;
-  waits = λ wraps. IsReadOut-stopped j l m ended f g t u stop read.got read.stops counts;
+  answers = Answers-mean j xs ys meant.fine meant.sent;
+  whole = writes.splits ∙ append-nil writes.put;
+  reports = record { rejected = meant.rejected; kept = meant.kept };
 }
 
--- all of it was written
-HasRun-read : {N : Type 0} (j : Job N) (l m : Option (List ℕ)) (ended : Bool) (f g : ℕ) (t u : Option (List ℕ)) (stop : Stop) (xs ys : List Rec) (report : Report) (Cause : List ℕ → Type 0)
-    (read : HasRead j.version l m ended stop xs) → IsMeant j.does j.tasks j.keep j.net xs ys report.rejected report.kept → Appends t u (text ys) → Cause read.got
-    → HasRun j (streams l m ended f g t u) report Cause
-HasRun-read j l m ended f g t u stop xs ys report Cause read meant written cause = record {
-  got = read.got;
-  reads = read.reads;
-  sent = ys;
-  answers = Answers-read j l m ended stop xs ys report.rejected report.kept read meant f g t u;
-  writes = written;
-  reports = subst (λ (l : List Rec). IsReported j l report) read.records (record { rejected = meant.rejected; kept = meant.kept });
-  cause = cause;
+HasBroken-cut : {N : Type 0} (j : Job N) (halt : Halt) (xs ys : List Rec) (number : ℕ) (kept : List Rec) (t u : Option (List ℕ)) → IsMeant j.does j.tasks j.keep j.net xs ys number kept
+    → WritesSome (text ys) t u → HasBroken j halt xs [] t u
+HasBroken-cut j halt xs ys number kept t u meant writes = record {
+  put = writes.put;
+  taken = writes.taken;
+  begun = Begun-beginning j halt xs writes.put
+      (record { sent = ys; back = writes.back; answers = Answers-mean j xs ys meant.fine meant.sent; splits = writes.splits });
 }
 
-pub Ran-read : {N : Type 0} (j : Job N) (l m : Option (List ℕ)) (ended : Bool) (f g : ℕ) (t u : Option (List ℕ)) (stop : Stop) (xs ys : List Rec) (report : Report)
-    → HasRead j.version l m ended stop xs → IsMeant j.does j.tasks j.keep j.net xs ys report.rejected report.kept → Appends t u (text ys)
-    → Ran j (streams l m ended f g t u) (answer_of stop report)
-Ran-read j l m ended f g t u End xs ys report read meant written = HasRun-read j l m ended f g t u End xs ys report _ read meant written read.stops
-Ran-read j l m ended f g t u Read xs ys report read meant written = HasRun-read j l m ended f g t u Read xs ys report _ read meant written read.stops
-Ran-read j l m ended f g t u (Line fault) xs ys report read meant written = HasRun-read j l m ended f g t u (Line fault) xs ys report _ read meant written read.stops.0
+Ends-cut : {N : Type 0} (j : Job N) (halt : Halt) (xs ys : List Rec) (number : ℕ) (kept : List Rec) (t u : Option (List ℕ)) → IsMeant j.does j.tasks j.keep j.net xs ys number kept
+    → WritesSome (text ys) t u → Ends j xs [] t u (Err (halted halt))
+Ends-cut j Write xs ys number kept t u meant writes = HasBroken-cut j Write xs ys number kept t u meant writes
+Ends-cut j NoMemory xs ys number kept t u meant writes = HasBroken-cut j NoMemory xs ys number kept t u meant writes
 
--- a run that broke off at a write
-pub Ran-halted : {N : Type 0} (j : Job N) (l m : Option (List ℕ)) (ended : Bool) (f g : ℕ) (t u : Option (List ℕ)) (halt : Halt) → IsCutShort j (streams l m ended f g t u)
-    → Ran j (streams l m ended f g t u) (Err (halted halt))
-Ran-halted j l m ended f g t u Write cut = cut
-Ran-halted j l m ended f g t u NoMemory cut = HasBegun-cut j (streams l m ended f g t u) cut
-
--- what a run that wasn't over its limit gave
-pub IsMeant-done : {N : Type 0} (j : Job N) (xs : List Rec) (outcome : Outcome) (ys : List Rec) (number : ℕ) (kept : List Rec) → Answered j.does j.tasks j.keep j.net xs outcome
+-- what a run gave that wasn't over its limit
+IsMeant-done : {N : Type 0} (j : Job N) (xs : List Rec) (outcome : Outcome) (ys : List Rec) (number : ℕ) (kept : List Rec) → Answered j.does j.tasks j.keep j.net xs outcome
     → outcome ≡ Done ys number kept → IsMeant j.does j.tasks j.keep j.net xs ys number kept
 IsMeant-done j xs outcome ys number kept answered is = subst (λ (o : Outcome). Answered j.does j.tasks j.keep j.net xs o) is answered
 
 -- one that was
-pub not-fine : {N : Type 0} (j : Job N) (xs : List Rec) (outcome : Outcome) → Answered j.does j.tasks j.keep j.net xs outcome → outcome ≡ Over → Fine j.does j.tasks j.net xs → ⊥
+not-fine : {N : Type 0} (j : Job N) (xs : List Rec) (outcome : Outcome) → Answered j.does j.tasks j.keep j.net xs outcome → outcome ≡ Over → Fine j.does j.tasks j.net xs → ⊥
 not-fine j xs outcome answered is = subst (λ (o : Outcome). Answered j.does j.tasks j.keep j.net xs o) is answered
+
+-- a record was added
+pub Goes-pushed : {N W : Type 0} (stands : Job N → W → List Rec → List ℕ → Type 0) (w v : W) (r : Rec) (t : Option (List ℕ))
+    → ((j : Job N) (xs : List Rec) (front : List ℕ) → stands j w xs front → stands j v (xs ++ r ∷ []) front) → Goes stands w (r ∷ []) v t t
+Goes-pushed stands w v r t adds = record {
+  put = [];
+  taken = Appends-nil t;
+  keeps = λ j xs front at. subst (λ l. stands j v (xs ++ r ∷ []) l) (sym (append-nil front)) (adds j xs front at);
+}
+
+Ends-gathers : {N : Type 0} (own j : Job N) (records xs : List Rec) (front : List ℕ) (t u : Option (List ℕ)) (answer : Result Report RunFault) → Gathers own records j xs front
+    → Ends own records [] t u answer → Ends j xs front t u answer
+Ends-gathers own j records xs front t u answer at ends =
+    subst (λ (k : Job _). Ends k xs front t u answer) (sym at.runs)
+    (subst (λ l. Ends own l front t u answer) at.given
+    (subst (λ l. Ends own records l t u answer) (sym at.nothing) ends))
+
+module _ {N : Type 0} (own : Job N) (records : List Rec) where
+  -- however the work ends
+  abbrev pub Finished : Option (List ℕ) → Option (List ℕ) → Result Report RunFault → Type 0
+  Finished t u answer = (j : Job N) (xs : List Rec) (front : List ℕ) → Gathers own records j xs front → Ends j xs front t u answer
+
+  pub Finished-memory : (t : Option (List ℕ)) → Finished t t (Err NoMemoryFault)
+  Finished-memory t j xs front at = Ends-gathers own j records xs front t t (Err NoMemoryFault) at (Ends-memory own records t)
+
+  module _ (outcome : Outcome) (answered : Answered own.does own.tasks own.keep own.net records outcome) where
+    pub Finished-over : (t : Option (List ℕ)) → outcome ≡ Over → Finished t t (Err Tasks)
+    Finished-over t is j xs front at =
+        Ends-gathers own j records xs front t t (Err Tasks) at (Ends-overrun own records t (not-fine own records outcome answered is))
+
+    pub Finished-written : (report : Report) (ys : List Rec) (t u : Option (List ℕ)) → outcome ≡ Done ys report.rejected report.kept → Writes (text ys) [] t u → Finished t u (Ok report)
+    Finished-written report ys t u is writes j xs front at =
+        Ends-gathers own j records xs front t u (Ok report) at
+        (Ends-written own records ys report t u (IsMeant-done own records outcome ys report.rejected report.kept answered is) writes)
+
+    pub Finished-cut : (halt : Halt) (ys : List Rec) (number : ℕ) (kept : List Rec) (t u : Option (List ℕ)) → outcome ≡ Done ys number kept → WritesSome (text ys) t u
+        → Finished t u (Err (halted halt))
+    Finished-cut halt ys number kept t u is writes j xs front at =
+        Ends-gathers own j records xs front t u (Err (halted halt)) at
+        (Ends-cut own halt records ys number kept t u (IsMeant-done own records outcome ys number kept answered is) writes)

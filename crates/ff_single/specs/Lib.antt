@@ -1,5 +1,4 @@
-pub mod Streams
-pub mod Endings
-pub mod Reads
-pub mod Writes
-pub mod Flows
+pub mod Pipelines
+pub mod Wholes
+-- lemmas: nothing to trust
+pub mod WholeLaws

@@ -2,17 +2,13 @@
 //! whole input first.
 #![tactic(auto)]
 
-mod fault;
-mod flow;
-mod limits;
-mod read;
+mod groups;
+mod pipeline;
 mod run;
-mod stop;
-mod write;
+mod whole;
 
-pub use fault::RunFault;
-pub use ff_stream::Report;
-pub use run::{run_flowing, run_whole};
+pub use ff_stream::{Ending, Report, RunFault, Stop};
+pub use run::run_single;
 
 #[cfg(test)]
 mod tests;

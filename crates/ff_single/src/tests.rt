@@ -1,10 +1,10 @@
 // What no clause says: that the calls succeed while memory is there, and that the clauses mean these bytes.
 mod gate;
 
-use crate::{Report, RunFault, run_flowing, run_whole};
-use ff_io::{MemSink, MemSource};
-use ff_net::{Checked, Net, Version, check};
-use ff_rec::LineFault;
+use crate::{Ending, RunFault, Stop, run_single};
+use ff_io::{MemSink, MemSource, Source};
+use ff_net::{Checked, Net, Test, Version, check};
+use ff_rec::{Cmp, LineFault};
 use gate::Gate;
 use std::alloc::Global;
 use std::process::Abort;
@@ -25,157 +25,166 @@ const SOUND: Devices = Devices {
     budget: 200_000,
 };
 
+// How a run ends.
 #[derive(Clone, Copy, Debug, PartialEq, Eq)]
 enum Kind {
-    Done,
-    Tasks,
-    Write,
-    Read,
-    Line(LineFault),
-    NoMemory,
+    Ended(Stop),
+    Broken(RunFault),
 }
 
-// What a run answers, what the sink took, and how many records were rejected and kept.
-#[derive(Clone, Copy)]
-struct Want<'a> {
-    kind: Kind,
-    out: &'a [u8],
-    rejected: usize,
-}
+const DONE: Kind = Kind::Ended(Stop::End);
 
-// One gate behind another.
-fn gates(alloc: Global, count: usize, version: Version) -> Result<Checked<Gate>, Fail> {
+const WRITE: Kind = Kind::Broken(RunFault::Write);
+
+// A row of gates.
+fn row(alloc: Global, count: usize) -> Result<Net<Gate>, Fail> {
     let mut parts = Vec::new(alloc);
     for _ in 0..count {
         parts.push(Net::Leaf(Gate))?;
     }
-    match check(Net::Pipe(parts), version) {
+    Ok(Net::Pipe(parts))
+}
+
+// Up to 64 gates in a row, or two rows of half as many each.
+fn gates(alloc: Global, count: usize) -> Result<Net<Gate>, Fail> {
+    if count <= 64 {
+        return row(alloc, count);
+    }
+    let mut rows = Vec::new(alloc);
+    rows.push(row(alloc, count / 2)?)?;
+    rows.push(row(alloc, count - count / 2)?)?;
+    Ok(Net::Pipe(rows))
+}
+
+// A wrap of two gates, to which no result comes back.
+fn wrap(alloc: Global) -> Result<Net<Gate>, Fail> {
+    Ok(Net::Wrap {
+        workers: 2,
+        worker: Box::new(alloc, Net::Leaf(Gate))?,
+        test: Test {
+            field: 1,
+            cmp: Cmp::Lt,
+            value: -9,
+        },
+    })
+}
+
+// The network, which keeps all rules.
+fn checked(net: Net<Gate>, version: Version) -> Result<Checked<Gate>, Fail> {
+    match check(net, version) {
         Ok(checked) => Ok(checked),
         Err(_) => Err(Fail::from("the network was refused")),
     }
 }
 
-fn kind_of(answer: &Result<Report, RunFault>) -> Kind {
+// How a run ends, how many records were rejected, and how many of them were kept.
+fn summary(answer: Result<Ending, RunFault>) -> (Kind, u64, usize) {
     match answer {
-        Ok(_) => Kind::Done,
-        Err(RunFault::Tasks) => Kind::Tasks,
-        Err(RunFault::Write) => Kind::Write,
-        Err(RunFault::Read(_)) => Kind::Read,
-        Err(RunFault::Line(fault, _)) => Kind::Line(*fault),
-        Err(RunFault::NoMemory) => Kind::NoMemory,
+        Ok(Ending { stop, report }) => (Kind::Ended(stop), report.rejected, report.kept.len()),
+        Err(fault) => (Kind::Broken(fault), 0, 0),
     }
 }
 
-// How many records were rejected, and how many of them were kept.
-fn rejects(answer: Result<Report, RunFault>) -> (u64, usize) {
-    match answer {
-        Ok(report) | Err(RunFault::Read(report)) | Err(RunFault::Line(_, report)) => {
-            (report.rejected, report.kept.len())
-        }
-        _ => (0, 0),
-    }
-}
-
-// Runs the gates both ways and compares.
+// Runs a network over an input and compares: how it ends, what the sink took, and how many records were rejected.
 fn compare(
     rt: &impl Abort,
     alloc: Global,
-    checked: &Checked<Gate>,
+    net: &Checked<Gate>,
     input: &[u8],
     by: Devices,
-    want: Want,
+    kind: Kind,
+    out: &[u8],
+    rejected: usize,
 ) -> Result<(), Fail> {
     assert!(rt; 1 <= by.most);
-    for whole in [false, true] {
-        let bytes = Vec::from_slice(alloc, input)?;
-        let mut source = MemSource::new(bytes, by.most, vec![in alloc; by.fails]?);
-        let mut sink = MemSink::new(alloc, by.budget, Vec::new(alloc))?;
-        let answer = if whole {
-            run_whole(alloc, checked, 9, true, &mut source, &mut sink)
-        } else {
-            run_flowing(alloc, checked, 9, true, &mut source, &mut sink)
-        };
-        assert_eq!(rt; kind_of(&answer), want.kind);
-        assert_eq!(rt; rejects(answer), (want.rejected as u64, want.rejected));
-        assert_eq!(rt; sink.taken(), want.out);
-    }
+    let bytes = Vec::from_slice(alloc, input)?;
+    let mut source = MemSource::new(bytes, by.most, vec![in alloc; by.fails]?);
+    let mut sink = MemSink::new(alloc, by.budget, Vec::new(alloc))?;
+    let answer = run_single(alloc, net, 9, true, &mut source, &mut sink);
+    assert_eq!(rt; summary(answer), (kind, rejected as u64, rejected));
+    assert_eq!(rt; sink.taken(), out);
     Ok(())
 }
 
-#[test]
-fn whole_inputs(rt: HostRuntime) -> Result<(), Fail> {
-    for count in 1..4 {
-        let checked = gates(rt.alloc(), count, Version::One)?;
-        for most in [1, 3, 65_536] {
-            let want = Want {
-                kind: Kind::Done,
-                out: b"1\n\n345\n",
-                rejected: 1,
-            };
-            let by = Devices { most, ..SOUND };
-            compare(&rt, rt.alloc(), &checked, b"1\n2\ta\n\n345", by, want)?;
-        }
+// The networks that are run: rows of one gate, of some, and of more than a comb may have, and one with feedback.
+fn networks(alloc: Global, version: Version) -> Result<Vec<Checked<Gate>>, Fail> {
+    let mut list = Vec::new(alloc);
+    for count in [1, 3, 66] {
+        list.push(checked(gates(alloc, count)?, version)?)?;
     }
-    Ok(())
+    list.push(checked(wrap(alloc)?, version)?)?;
+    Ok(list)
 }
 
 #[test]
-fn devices_that_fail(rt: HostRuntime) -> Result<(), Fail> {
-    let checked = gates(rt.alloc(), 2, Version::One)?;
+fn runs_of_every_end(rt: HostRuntime) -> Result<(), Fail> {
+    let alloc = rt.alloc();
+    let networks = networks(alloc, Version::One)?;
+    let read = Kind::Ended(Stop::Read);
     // Pieces of two bytes: the third gives half of the last line.
-    for (fails, out) in [(1, b"".as_slice()), (2, b"1\n"), (4, b"1\n2\n")] {
+    for (input, fails, budget, kind, out, rejected) in [
+        (
+            b"1\n2\ta\n\n345".as_slice(),
+            0,
+            99,
+            DONE,
+            b"1\n\n345\n".as_slice(),
+            1,
+        ),
+        (b"", 0, 99, DONE, b"", 0),
+        (b"1\n2\n345", 1, 99, read, b"", 0),
+        (b"1\n2\n345", 4, 99, read, b"1\n2\n", 0),
+        (b"1\n22\na\tb\n3", 0, 0, WRITE, b"", 0),
+        (b"1\n22\na\tb\n3", 0, 3, WRITE, b"1\n2", 0),
+        (b"1\n22\na\tb\n3", 0, 6, WRITE, b"1\n22\n3", 0),
+    ] {
         let by = Devices {
             most: 2,
             fails,
-            ..SOUND
+            budget,
         };
-        let want = Want {
-            kind: Kind::Read,
-            out,
-            rejected: 0,
-        };
-        compare(&rt, rt.alloc(), &checked, b"1\n2\n345", by, want)?;
+        for net in &networks {
+            compare(&rt, alloc, net, input, by, kind, out, rejected)?;
+        }
     }
-    for budget in 0..7 {
-        let by = Devices { budget, ..SOUND };
-        let want = Want {
-            kind: Kind::Write,
-            out: b"1\n22\n3\n".as_slice().get(..budget).ok_or("short")?,
-            rejected: 0,
-        };
-        compare(&rt, rt.alloc(), &checked, b"1\n22\na\tb\n3", by, want)?;
-    }
-    Ok(())
+    // Ten tasks, of which nine are allowed.
+    let net = checked(wrap(alloc)?, Version::One)?;
+    let tasks = Kind::Broken(RunFault::Tasks);
+    let ten = b"1\n2\n3\n4\n5\n6\n7\n8\n9\n0\n".as_slice();
+    compare(&rt, alloc, &net, ten, SOUND, tasks, b"", 0)
 }
 
 // A line may have 65536 bytes in the first version, and more in the second.
 #[test]
 fn lines_of_both_versions(rt: HostRuntime) -> Result<(), Fail> {
     let alloc = rt.alloc();
-    let mut line = vec![in alloc; b'x'; 65_536]?;
-    line.push(b'\n')?;
-    let want = Want {
-        kind: Kind::Done,
-        out: &line,
-        rejected: 0,
-    };
-    let first = gates(alloc, 1, Version::One)?;
-    compare(&rt, alloc, &first, &line, SOUND, want)?;
     let mut long = vec![in alloc; b'x'; 65_537]?;
     long.push(b'\n')?;
     let mut input = Vec::from_slice(alloc, b"1\na\tb\n")?;
     input.extend_from_slice(&long)?;
-    let want = Want {
-        kind: Kind::Line(LineFault::TooLong(3)),
-        out: b"1\n",
-        rejected: 1,
-    };
-    compare(&rt, alloc, &first, &input, SOUND, want)?;
-    let second = gates(alloc, 1, Version::Two)?;
-    let want = Want {
-        kind: Kind::Done,
-        out: &long,
-        rejected: 0,
-    };
-    compare(&rt, alloc, &second, &long, SOUND, want)
+    let mut whole = Vec::from_slice(alloc, b"1\n")?;
+    whole.extend_from_slice(&long)?;
+    let line = Kind::Ended(Stop::Line(LineFault::TooLong(3)));
+    for net in &networks(alloc, Version::One)? {
+        compare(&rt, alloc, net, &input, SOUND, line, b"1\n", 1)?;
+    }
+    for net in &networks(alloc, Version::Two)? {
+        compare(&rt, alloc, net, &input, SOUND, DONE, &whole, 1)?;
+    }
+    Ok(())
+}
+
+// More nodes than a comb may have flow too: a sink that fails leaves the rest of the input.
+#[test]
+fn many_nodes_flow(rt: HostRuntime) -> Result<(), Fail> {
+    let alloc = rt.alloc();
+    let net = checked(gates(alloc, 66)?, Version::One)?;
+    let mut source = MemSource::new(Vec::from_slice(alloc, b"1\n2\n")?, 2, Vec::new(alloc));
+    let mut sink = MemSink::new(alloc, 0, Vec::new(alloc))?;
+    let answer = run_single(alloc, &net, 9, true, &mut source, &mut sink);
+    assert_eq!(rt; summary(answer), (WRITE, 0, 0));
+    let mut buf = [0; 4];
+    assert_eq!(rt; source.read(&mut buf), Ok(2));
+    assert_eq!(rt; &buf[..2], b"2\n".as_slice());
+    Ok(())
 }

@@ -7,10 +7,10 @@ pub struct Gate;
 
 impl Node for Gate {
     ghost use Rattle.std.specs.Prelude.{nat_lt, false, if◌then◌else◌, length, [], ◌∷◌, refl};
-    ghost use Rattle.ff_node.specs.declared.class.Class.TheVariants.{Ordered};
+    ghost use Rattle.ff_node.specs.declared.class.Class.TheVariants.{Plain};
 
     ghost does = { record {
-      class = λ s. Ordered;
+      class = λ s. Plain;
       opening = λ s. s;
       sends = λ s x. if nat_lt 1 (length x) then [] else x ∷ [];
       rejects = λ s x. if nat_lt 1 (length x) then x ∷ [] else [];
@@ -22,10 +22,10 @@ impl Node for Gate {
 
     ghost keeps_kind = { record { opening_of_opening = λ s. refl; opening_of_next = λ s x. refl; class_of_opening = λ s. refl } };
 
-    ghost class_law = { λ o. tt };
+    ghost class_law = { λ o. record { sends = λ ys x. refl; rejects = λ ys x. refl; ends = λ ys x. refl; last = λ ys. refl; last_rejects = λ ys. refl } };
 
     fn class(&self) -> Class {
-        Class::Ordered
+        Class::Plain
     }
 
     fn copy(&self) -> Result<Gate, NoMemory> {

@@ -1,0 +1,15 @@
+-- Nothing was done yet.
+use Rattle.std.proofs.Common.{refl}
+use Rattle.std.proofs.lemmas.Result.{err_from_is_err_and}
+use Rattle.ff_net.specs.Tree.{tree_of}
+use Rattle.ff_stream.specs.Jobs.{job}
+use Rattle.ff_stream.specs.Streams.{streams}
+use Rattle.ff_stream.proofs.Endings.{IsCutShort-none}
+use Rattle.ff_single.proofs.run.run_single.Goals as goal
+
+pub returns-in_err-nodes-clause-run : goal.returns-in_err-nodes-clause-run
+returns-in_err-nodes-clause-run g c =
+    let p = err_from_is_err_and c.from_residual.result c.from_residual.ensures.1 in
+    let j = job g.N.Node.does (tree_of c.args.checked.now.net) c.args.checked.now.version c.args.limit c.args.keep in
+    let s = streams g.I.Source.left g.I.Source.ended g.I.Source.faults g.O.Sink.taken c.args.source.now c.args.source.now c.args.sink.now c.args.sink.now in
+    rw (p.1, p.2) (IsCutShort-none j s refl refl)
