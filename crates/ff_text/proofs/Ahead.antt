@@ -2,7 +2,8 @@
 use Rattle.std.proofs.Common.{◌≡◌, ◌≢◌, ℕ, zero, suc, ◌+◌, ◌-◌, ◌<◌, ◌≤◌, List, [], ◌∷◌, length, get_or, take, drop, Some, refl, sym, ap, subst, ◌∙◌, arith, one-add, length-drop}
 use Rattle.std.proofs.lemmas.List.{take_all, drop-drop}
 use Rattle.std.specs.Option.{MatchOption}
-use Rattle.ff_text.specs.Tokens.{Token, Word, Number, Sign, Quoted, Bad, Stop, HasPlainText, Spot}
+use Rattle.ff_text.specs.Tokens.{Token, Word, Number, Sign, Quoted, Bad, Stop, HasPlainText, PlacedToken}
+use Rattle.ff_text.proofs.CutTokens.{IsCut, HasPlainText-cut}
 use Rattle.ff_text.proofs.Inside.{IsInside-lexeme}
 use Rattle.ff_text.specs.Seen.{behind}
 use Rattle.ff_text.specs.Cutting.{Lexeme, lexeme, put, spots, ahead}
@@ -37,7 +38,7 @@ ahead-lexeme text at l is within =
     ∙ ap (λ bs. put l.token at (spots 0 (at + (1 + l.more)) bs)) (drop-drop (1 + l.more) at text)
 
 -- behind any token but the end
-behind-other : (t : Token) (rest : List Spot) → t ≢ Stop → behind t rest ≡ rest
+behind-other : (t : Token) (rest : List PlacedToken) → t ≢ Stop → behind t rest ≡ rest
 behind-other (Word w) rest h = refl
 behind-other (Number n) rest h = refl
 behind-other (Sign m) rest h = refl
@@ -55,5 +56,5 @@ ahead-token text at l t is within token =
       ahead-lexeme text at l is within
           ∙ ap (λ o. put o at (ahead text (at + (1 + l.more)))) token
           ∙ ap (λ rest. record { token = t; at = at } ∷ rest) (sym (behind-other t (ahead text (at + (1 + l.more))) other)),
-      subst (λ o. MatchOption o (Unit {0}) HasPlainText) same here.plain,
+      HasPlainText-cut t (subst (λ o. MatchOption o (Unit {0}) IsCut) same here.holds),
     )

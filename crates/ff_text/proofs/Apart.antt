@@ -8,8 +8,8 @@ use Rattle.std.specs.List.{list_all}
 use Rattle.std.specs.Char.{is_ascii_lowercase, is_ascii_digit}
 use Rattle.std.specs.Str.{all_ascii_digits}
 use Rattle.ff_rec.specs.Number.{printed, IsNumber, PrintedIsRead}
-use Rattle.ff_text.specs.declared.mark.Mark.{Mark}
-use Rattle.ff_text.specs.declared.mark.Mark.TheVariants.{Open, Close, Comma, Less, AtMost, Equal, Unequal, AtLeast, Greater, Semicolon}
+use Rattle.ff_text.specs.declared.text_mark.TextMark.{TextMark}
+use Rattle.ff_text.specs.declared.text_mark.TextMark.TheVariants.{Open, Close, Comma, Less, AtMost, Equal, Unequal, AtLeast, Greater, Semicolon}
 use Rattle.ff_text.specs.Tokens.{Token, Word, Number, Sign, Quoted, Bad, Stop}
 use Rattle.ff_text.specs.Classes.{is_in_word}
 use Rattle.ff_text.specs.Cutting.{is_next, spots}
@@ -18,7 +18,7 @@ use Rattle.ff_text.proofs.Runs.{is_front, lowercase-range, digit-range}
 use Rattle.ff_text.proofs.Lexemes.{Ends, EndsMark, CutsOff, CutsOff-written, numeral_words}
 
 -- no mark goes on with a word or a number
-word-mark : (m : Mark) (rest : List ℕ) → is_front is_in_word (mark_bytes m ++ rest) ≡ false
+word-mark : (m : TextMark) (rest : List ℕ) → is_front is_in_word (mark_bytes m ++ rest) ≡ false
 word-mark Open rest = refl
 word-mark Close rest = refl
 word-mark Comma rest = refl
@@ -30,7 +30,7 @@ word-mark AtLeast rest = refl
 word-mark Greater rest = refl
 word-mark Semicolon rest = refl
 
-digit-mark : (m : Mark) (rest : List ℕ) → is_front is_ascii_digit (mark_bytes m ++ rest) ≡ false
+digit-mark : (m : TextMark) (rest : List ℕ) → is_front is_ascii_digit (mark_bytes m ++ rest) ≡ false
 digit-mark Open rest = refl
 digit-mark Close rest = refl
 digit-mark Comma rest = refl
@@ -43,7 +43,7 @@ digit-mark Greater rest = refl
 digit-mark Semicolon rest = refl
 
 -- only `=` begins with `=`
-equal-mark : (m : Mark) (rest : List ℕ) → is_equal (Sign m) ≡ false → is_next 61 (mark_bytes m ++ rest) ≡ false
+equal-mark : (m : TextMark) (rest : List ℕ) → is_equal (Sign m) ≡ false → is_next 61 (mark_bytes m ++ rest) ≡ false
 equal-mark Open rest other = refl
 equal-mark Close rest other = refl
 equal-mark Comma rest other = refl
@@ -96,7 +96,7 @@ Ends-digits (Quoted bytes) rest fits apart = refl
 Ends-digits Bad rest fits apart = absurd fits
 Ends-digits Stop rest fits apart = absurd fits
 
-Ends-sign : (m : Mark) (u : Token) (rest : List ℕ) → IsPrintable u → run_together (Sign m) u ≡ false → EndsMark m (written u ++ rest)
+Ends-sign : (m : TextMark) (u : Token) (rest : List ℕ) → IsPrintable u → run_together (Sign m) u ≡ false → EndsMark m (written u ++ rest)
 Ends-sign Open u rest fits apart = tt
 Ends-sign Close u rest fits apart = tt
 Ends-sign Comma u rest fits apart = tt

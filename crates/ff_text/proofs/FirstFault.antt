@@ -12,16 +12,18 @@ use Rattle.ff_ops.specs.declared.arg.ArgKind.{ArgKind}
 use Rattle.ff_ops.specs.declared.arg.ArgKind.TheVariants.{Field, Num as AnyNumber, NonZero, Count, Cmp as AnyComparison, Text as AnyText}
 use Rattle.ff_rec.specs.declared.cmp.Cmp.{Cmp}
 use Rattle.ff_text.specs.declared.fault.TextKind.{TextKind}
-use Rattle.ff_text.specs.declared.fault.TextKind.TheVariants.{TooLong, BadByte, BadToken, UnknownName, Range, Deep, End, Large, TakenName}
+use Rattle.ff_text.specs.declared.fault.TextKind.TheVariants.{BadByte, BadToken, UnknownName, Range, Deep, End, Large, TakenName}
 use Rattle.ff_text.specs.declared.form.Form.{Form}
-use Rattle.ff_text.specs.declared.mark.Mark.{Mark}
-use Rattle.ff_text.specs.declared.mark.Mark.TheVariants.{Open, Close, Comma, Semicolon}
-use Rattle.ff_text.specs.Tokens.{Token, Word, Number, Sign, Quoted, Bad, Stop, Spot}
+use Rattle.ff_text.specs.declared.text_mark.TextMark.{TextMark}
+use Rattle.ff_text.specs.declared.text_mark.TextMark.TheVariants.{Open, Close, Comma, Semicolon}
+use Rattle.ff_text.specs.Tokens.{Token, Word, Number, Sign, Quoted, Bad, Stop, PlacedToken}
 use Rattle.ff_text.specs.Printing.{tokens_of}
 use Rattle.ff_text.specs.OperationTokens.{argument_token, comparison}
 use Rattle.ff_text.specs.Grammar.{form_word, form_named, a_count}
 use Rattle.ff_text.specs.Faults.{Begins, AwaitsNet, AwaitsNumber, IsBadByte, IsFormWord, IsUnknownWord, IsNumberToken, Means, Fault, IsFault}
-use Rattle.ff_text.specs.Wants.{Want, Network, Parts, Argument, Schedule, Routing, Opening, Closing, Condition, Finish, refused, begin_named, take_argument, is_sched, expand, pushed, step, then_walk, walk, start}
+use Rattle.ff_net.specs.declared.net.Version.TheVariants.{One}
+use Rattle.ff_text.specs.Names.{one}
+use Rattle.ff_text.specs.Wants.{Want, Network, Parts, Argument, Schedule, Routing, Opening, Closing, Condition, Finish, misplaced, begin_word, take_argument, is_sched, expand, pushed, step, then_walk, walk, start}
 use Rattle.ff_text.proofs.Named.{form_word-form_named}
 use Rattle.ff_text.proofs.Completes.{expand-argument}
 use Rattle.ff_text.proofs.Viable.{example, Reaches, Reaches-start, Reaches-more, viable, stuck}
@@ -41,7 +43,6 @@ NumberFirst _ = ⊥
 
 -- a kind of fault, said of what is wanted
 abbrev Says : TextKind → List Want → Token → Type 0
-Says TooLong ws t = ⊥
 Says BadByte ws t = IsBadByte t
 Says Deep ws t = NetFirst ws × IsFormWord t
 Says UnknownName ws t = NetFirst ws × IsUnknownWord t
@@ -64,14 +65,14 @@ Says-bad_token : (ws : List Want) (t : Token) → t ≢ Bad → t ≢ Sign Semic
 Says-bad_token ws t p q r out =
     (neither t p q, r, λ net (f, is). out.0 net (form_word f) is, λ net (name, is, _, _). out.0 net name is, λ number (n, is). out.1 number n is)
 
-Says-refused : (ws : List Want) (t : Token) → IsOutOfPlace ws t → Says (refused t) ws t
-Says-refused ws (Sign Semicolon) out = inr refl
-Says-refused ws Bad out = inl refl
-Says-refused ws Stop out = refl
-Says-refused ws t out = Says-bad_token ws t (λ e. cc) (λ e. cc) (λ e. cc) out
+Says-misplaced : (ws : List Want) (t : Token) → IsOutOfPlace ws t → Says (misplaced One t) ws t
+Says-misplaced ws (Sign Semicolon) out = inr refl
+Says-misplaced ws Bad out = inl refl
+Says-misplaced ws Stop out = refl
+Says-misplaced ws t out = Says-bad_token ws t (λ e. cc) (λ e. cc) (λ e. cc) out
 
-Says-is : (ws : List Want) (t : Token) (kind : TextKind) → IsOutOfPlace ws t → refused t ≡ kind → Says kind ws t
-Says-is ws t kind out is = subst (λ k. Says k ws t) is (Says-refused ws t out)
+Says-is : (ws : List Want) (t : Token) (kind : TextKind) → IsOutOfPlace ws t → misplaced One t ≡ kind → Says kind ws t
+Says-is ws t kind out is = subst (λ k. Says k ws t) is (Says-misplaced ws t out)
 
 -- where neither is wanted
 out-of-place : (ws : List Want) (t : Token) → (NetFirst ws → ⊥) → (NumberFirst ws → ⊥) → IsOutOfPlace ws t
@@ -79,7 +80,7 @@ out-of-place ws t p q = (λ net. absurd (p net), λ number. absurd (q number))
 
 -- a word where a network is wanted
 Says-word : (ws : List Want) (f : Option Form) (row : Option Row) (room : ℕ) (name : List ℕ) (kind : TextKind) → form_named name ≡ f → row_named name ≡ row
-    → begin_named f row room ≡ Err kind → Says kind (Network room ∷ ws) (Word name)
+    → begin_word f row None room ≡ Err kind → Says kind (Network room ∷ ws) (Word name)
 Says-word ws (Some f) row zero name kind is named e =
     let same : Deep ≡ kind = cc in
     let deep : Says Deep (Network zero ∷ ws) (Word name) = (tt, (f, ap Word (sym (form_word-form_named name f is)))) in
@@ -91,10 +92,10 @@ Says-word ws None None room name kind is named e =
     let unknown : Says UnknownName (Network room ∷ ws) (Word name) = (tt, (name, refl, is, named)) in
     subst (λ k. Says k (Network room ∷ ws) (Word name)) same unknown
 
-Says-network : (ws : List Want) (room : ℕ) (t : Token) (kind : TextKind) → expand (Network room) t ≡ Err kind → Says kind (Network room ∷ ws) t
+Says-network : (ws : List Want) (room : ℕ) (t : Token) (kind : TextKind) → expand one (Network room) t ≡ Err kind → Says kind (Network room ∷ ws) t
 Says-network ws room (Word name) kind e = Says-word ws (form_named name) (row_named name) room name kind refl refl e
 Says-network ws room t kind e =
-    let is : refused t ≡ kind = cc in Says-is (Network room ∷ ws) t kind (λ net name same. cc, λ number. absurd number) is
+    let is : misplaced One t ≡ kind = cc in Says-is (Network room ∷ ws) t kind (λ net name same. cc, λ number. absurd number) is
 
 -- a number where an argument is wanted
 Says-range : (ws : List Want) (kind : ArgKind) (n : Option ℤ) → is_numeric kind ≡ true → Says Range (Argument kind ∷ ws) (Number n)
@@ -102,7 +103,7 @@ Says-range ws kind n numeric = (numeric, (n, refl))
 
 Says-no_number : (ws : List Want) (kind : ArgKind) (n : Option ℤ) → is_numeric kind ≡ false → Says BadToken (Argument kind ∷ ws) (Number n)
 Says-no_number ws kind n other =
-    Says-refused (Argument kind ∷ ws) (Number n) (λ net. absurd net, λ numeric. let clash : true ≡ false = sym numeric ∙ other in cc)
+    Says-misplaced (Argument kind ∷ ws) (Number n) (λ net. absurd net, λ numeric. let clash : true ≡ false = sym numeric ∙ other in cc)
 
 Says-number : (ws : List Want) (kind : ArgKind) (n : ℤ) (k : TextKind) (b w : Bool) → is_numeric kind ≡ b → is_within (Num n) kind ≡ w
     → cond b (cond w (Ok []) (Err Range)) (Err BadToken) ≡ err k → Says k (Argument kind ∷ ws) (Number (Some n))
@@ -115,75 +116,75 @@ Says-large ws kind k true is e = let same : Range ≡ k = cc in subst (λ j. Say
 Says-large ws kind k false is e = let same : BadToken ≡ k = cc in subst (λ j. Says j (Argument kind ∷ ws) (Number None)) same (Says-no_number ws kind None is)
 
 -- another argument
-refused-if : (b : Bool) (j k : TextKind) → cond b (Ok []) (Err j) ≡ err k → j ≡ k
-refused-if true j k e = absurd (cc)
-refused-if false j k e = cc
+misplaced-if : (b : Bool) (j k : TextKind) → cond b (Ok []) (Err j) ≡ err k → j ≡ k
+misplaced-if true j k e = absurd (cc)
+misplaced-if false j k e = cc
 
-refused-sign : (kind : ArgKind) (m : Mark) (o : Option Cmp) (k : TextKind) → take_argument kind (option_map (λ cmp. Compared cmp) o) (Sign m) ≡ Err k → refused (Sign m) ≡ k
-refused-sign kind m None k e = cc
-refused-sign kind m (Some cmp) k e = refused-if (suits (Compared cmp) kind) (refused (Sign m)) k e
+misplaced-sign : (kind : ArgKind) (m : TextMark) (o : Option Cmp) (k : TextKind) → take_argument One kind (option_map (λ cmp. Compared cmp) o) (Sign m) ≡ Err k → misplaced One (Sign m) ≡ k
+misplaced-sign kind m None k e = cc
+misplaced-sign kind m (Some cmp) k e = misplaced-if (suits (Compared cmp) kind) (misplaced One (Sign m)) k e
 
-Says-argument : (ws : List Want) (kind : ArgKind) (t : Token) (k : TextKind) → expand (Argument kind) t ≡ Err k → Says k (Argument kind ∷ ws) t
+Says-argument : (ws : List Want) (kind : ArgKind) (t : Token) (k : TextKind) → expand one (Argument kind) t ≡ Err k → Says k (Argument kind ∷ ws) t
 Says-argument ws kind (Word name) k e = Says-is (Argument kind ∷ ws) (Word name) k (λ net. absurd net, λ numeric n same. cc) (cc)
 Says-argument ws kind (Number None) k e = Says-large ws kind k (is_numeric kind) refl e
 Says-argument ws kind (Number (Some n)) k e = Says-number ws kind n k (is_numeric kind) (is_within (Num n) kind) refl refl e
-Says-argument ws kind (Sign m) k e = Says-is (Argument kind ∷ ws) (Sign m) k (λ net. absurd net, λ numeric n same. cc) (refused-sign kind m (comparison m) k e)
-Says-argument ws kind (Quoted bytes) k e = Says-is (Argument kind ∷ ws) (Quoted bytes) k (λ net. absurd net, λ numeric n same. cc) (refused-if (suits (Text bytes) kind) BadToken k e)
+Says-argument ws kind (Sign m) k e = Says-is (Argument kind ∷ ws) (Sign m) k (λ net. absurd net, λ numeric n same. cc) (misplaced-sign kind m (comparison m) k e)
+Says-argument ws kind (Quoted bytes) k e = Says-is (Argument kind ∷ ws) (Quoted bytes) k (λ net. absurd net, λ numeric n same. cc) (misplaced-if (suits (Text bytes) kind) BadToken k e)
 Says-argument ws kind Bad k e = Says-is (Argument kind ∷ ws) Bad k (λ net. absurd net, λ numeric n same. cc) (cc)
 Says-argument ws kind Stop k e = Says-is (Argument kind ∷ ws) Stop k (λ net. absurd net, λ numeric n same. cc) (cc)
 
 -- anything else that is wanted
-refused-parts : (room : ℕ) (t : Token) (k : TextKind) → expand (Parts room) t ≡ Err k → refused t ≡ k
-refused-parts room (Sign Comma) k e = absurd (cc)
-refused-parts room t k e = cc
+misplaced-parts : (room : ℕ) (t : Token) (k : TextKind) → expand one (Parts room) t ≡ Err k → misplaced One t ≡ k
+misplaced-parts room (Sign Comma) k e = absurd (cc)
+misplaced-parts room t k e = cc
 
-refused-schedule : (t : Token) (k : TextKind) → expand Schedule t ≡ Err k → refused t ≡ k
-refused-schedule (Word name) k e = refused-if (is_sched name) BadToken k e
-refused-schedule t k e = cc
+misplaced-schedule : (t : Token) (k : TextKind) → expand one Schedule t ≡ Err k → misplaced One t ≡ k
+misplaced-schedule (Word name) k e = misplaced-if (is_sched name) BadToken k e
+misplaced-schedule t k e = cc
 
-refused-route : (b c : Bool) (k : TextKind) → cond b (Ok []) (cond c (Ok (Argument a_count ∷ [])) (Err BadToken)) ≡ err k → BadToken ≡ k
-refused-route true c k e = absurd (cc)
-refused-route false true k e = absurd (cc)
-refused-route false false k e = cc
+misplaced-route : (b c : Bool) (k : TextKind) → cond b (Ok []) (cond c (Ok (Argument a_count ∷ [])) (Err BadToken)) ≡ err k → BadToken ≡ k
+misplaced-route true c k e = absurd (cc)
+misplaced-route false true k e = absurd (cc)
+misplaced-route false false k e = cc
 
-refused-routing : (t : Token) (k : TextKind) → expand Routing t ≡ Err k → refused t ≡ k
-refused-routing (Word name) k e = refused-route (is_sched name) (same_bytes name (codes "by")) k e
-refused-routing t k e = cc
+misplaced-routing : (t : Token) (k : TextKind) → expand one Routing t ≡ Err k → misplaced One t ≡ k
+misplaced-routing (Word name) k e = misplaced-route (is_sched name) (same_bytes name (codes "by")) k e
+misplaced-routing t k e = cc
 
-refused-opening : (t : Token) (k : TextKind) → expand Opening t ≡ Err k → refused t ≡ k
-refused-opening (Sign Open) k e = absurd (cc)
-refused-opening t k e = cc
+misplaced-opening : (t : Token) (k : TextKind) → expand one Opening t ≡ Err k → misplaced One t ≡ k
+misplaced-opening (Sign Open) k e = absurd (cc)
+misplaced-opening t k e = cc
 
-refused-closing : (t : Token) (k : TextKind) → expand Closing t ≡ Err k → refused t ≡ k
-refused-closing (Sign Close) k e = absurd (cc)
-refused-closing t k e = cc
+misplaced-closing : (t : Token) (k : TextKind) → expand one Closing t ≡ Err k → misplaced One t ≡ k
+misplaced-closing (Sign Close) k e = absurd (cc)
+misplaced-closing t k e = cc
 
-refused-condition : (t : Token) (k : TextKind) → expand Condition t ≡ Err k → refused t ≡ k
-refused-condition (Word name) k e = refused-if (same_bytes name (codes "if")) BadToken k e
-refused-condition t k e = cc
+misplaced-condition : (t : Token) (k : TextKind) → expand one Condition t ≡ Err k → misplaced One t ≡ k
+misplaced-condition (Word name) k e = misplaced-if (same_bytes name (codes "if")) BadToken k e
+misplaced-condition t k e = cc
 
-refused-finish : (t : Token) (k : TextKind) → expand Finish t ≡ Err k → refused t ≡ k
-refused-finish Stop k e = absurd (cc)
-refused-finish t k e = cc
+misplaced-finish : (t : Token) (k : TextKind) → expand one Finish t ≡ Err k → misplaced One t ≡ k
+misplaced-finish Stop k e = absurd (cc)
+misplaced-finish t k e = cc
 
-Says-expand : (w : Want) (ws : List Want) (t : Token) (k : TextKind) → expand w t ≡ Err k → Says k (w ∷ ws) t
+Says-expand : (w : Want) (ws : List Want) (t : Token) (k : TextKind) → expand one w t ≡ Err k → Says k (w ∷ ws) t
 Says-expand (Network room) ws t k e = Says-network ws room t k e
-Says-expand (Parts room) ws t k e = Says-is (Parts room ∷ ws) t k (out-of-place (Parts room ∷ ws) t (λ h. h) (λ h. h)) (refused-parts room t k e)
+Says-expand (Parts room) ws t k e = Says-is (Parts room ∷ ws) t k (out-of-place (Parts room ∷ ws) t (λ h. h) (λ h. h)) (misplaced-parts room t k e)
 Says-expand (Argument kind) ws t k e = Says-argument ws kind t k e
-Says-expand Schedule ws t k e = Says-is (Schedule ∷ ws) t k (out-of-place (Schedule ∷ ws) t (λ h. h) (λ h. h)) (refused-schedule t k e)
-Says-expand Routing ws t k e = Says-is (Routing ∷ ws) t k (out-of-place (Routing ∷ ws) t (λ h. h) (λ h. h)) (refused-routing t k e)
-Says-expand Opening ws t k e = Says-is (Opening ∷ ws) t k (out-of-place (Opening ∷ ws) t (λ h. h) (λ h. h)) (refused-opening t k e)
-Says-expand Closing ws t k e = Says-is (Closing ∷ ws) t k (out-of-place (Closing ∷ ws) t (λ h. h) (λ h. h)) (refused-closing t k e)
-Says-expand Condition ws t k e = Says-is (Condition ∷ ws) t k (out-of-place (Condition ∷ ws) t (λ h. h) (λ h. h)) (refused-condition t k e)
-Says-expand Finish ws t k e = Says-is (Finish ∷ ws) t k (out-of-place (Finish ∷ ws) t (λ h. h) (λ h. h)) (refused-finish t k e)
+Says-expand Schedule ws t k e = Says-is (Schedule ∷ ws) t k (out-of-place (Schedule ∷ ws) t (λ h. h) (λ h. h)) (misplaced-schedule t k e)
+Says-expand Routing ws t k e = Says-is (Routing ∷ ws) t k (out-of-place (Routing ∷ ws) t (λ h. h) (λ h. h)) (misplaced-routing t k e)
+Says-expand Opening ws t k e = Says-is (Opening ∷ ws) t k (out-of-place (Opening ∷ ws) t (λ h. h) (λ h. h)) (misplaced-opening t k e)
+Says-expand Closing ws t k e = Says-is (Closing ∷ ws) t k (out-of-place (Closing ∷ ws) t (λ h. h) (λ h. h)) (misplaced-closing t k e)
+Says-expand Condition ws t k e = Says-is (Condition ∷ ws) t k (out-of-place (Condition ∷ ws) t (λ h. h) (λ h. h)) (misplaced-condition t k e)
+Says-expand Finish ws t k e = Says-is (Finish ∷ ws) t k (out-of-place (Finish ∷ ws) t (λ h. h) (λ h. h)) (misplaced-finish t k e)
 
 pushed-err : (ws : List Want) (r : Result (List Want) TextKind) (k : TextKind) → pushed r ws ≡ Err k → r ≡ Err k
 pushed-err ws (Ok new) k e = absurd (cc)
 pushed-err ws (Err j) k e = let same : j ≡ k = cc in ap (λ i. Err i) same
 
-Says-step : (ws : List Want) (t : Token) (k : TextKind) → step ws t ≡ Err k → Says k ws t
+Says-step : (ws : List Want) (t : Token) (k : TextKind) → step one ws t ≡ Err k → Says k ws t
 Says-step [] t k e = Says-is [] t k (out-of-place [] t (λ h. h) (λ h. h)) (cc)
-Says-step (w ∷ ws) t k e = Says-expand w ws t k (pushed-err ws (expand w t) k e)
+Says-step (w ∷ ws) t k e = Says-expand w ws t k (pushed-err ws (expand one w t) k e)
 
 -- what is wanted first, by the probes
 awaits-net : (ts : List Token) (ws : List Want) → Reaches ts ws → NetFirst ws → AwaitsNet ts
@@ -202,11 +203,11 @@ awaits-number : (ts : List Token) (ws : List Want) → Reaches ts ws → NumberF
 awaits-number ts (Argument kind ∷ ws) h numeric =
     let n = number-example kind numeric in
     let t = argument_token (example kind) in
-    let taken : step (Argument kind ∷ ws) t ≡ Ok ws = ap (λ r. pushed r ws) (expand-argument (example kind) kind h.good.0) in
+    let taken : step one (Argument kind ∷ ws) t ≡ Ok ws = ap (λ r. pushed r ws) (expand-argument one (example kind) kind h.good.0) in
     (n.0, subst (λ a. Begins (ts ++ argument_token a ∷ [])) n.1 (viable (ts ++ t ∷ []) ws (Reaches-more ts (Argument kind ∷ ws) t ws h taken)))
 awaits-number ts ws h numeric = absurd numeric
 
-refuses-id : (ws : List Want) → NetFirst ws ⊎ ((k : TextKind) × (step ws (Word (codes "id")) ≡ Err k))
+refuses-id : (ws : List Want) → NetFirst ws ⊎ ((k : TextKind) × (step one ws (Word (codes "id")) ≡ Err k))
 refuses-id [] = inr (BadToken, refl)
 refuses-id (Network room ∷ ws) = inl tt
 refuses-id (Parts room ∷ ws) = inr (BadToken, refl)
@@ -221,15 +222,15 @@ refuses-id (Finish ∷ ws) = inr (BadToken, refl)
 net-first : (ts : List Token) (ws : List Want) → Reaches ts ws → AwaitsNet ts → NetFirst ws
 net-first ts ws h awaits = by (refuses-id ws)
   where
-    by : NetFirst ws ⊎ ((k : TextKind) × (step ws (Word (codes "id")) ≡ Err k)) → NetFirst ws
+    by : NetFirst ws ⊎ ((k : TextKind) × (step one ws (Word (codes "id")) ≡ Err k)) → NetFirst ws
     by (inl net) = net
     by (inr (k, e)) = absurd (stuck ts ws (Word (codes "id")) k h e awaits)
 
-refuses-argument : (kind : ArgKind) (ws : List Want) (n : ℤ) (b : Bool) → is_numeric kind ≡ b → (is_numeric kind ≡ true) ⊎ ((k : TextKind) × (step (Argument kind ∷ ws) (Number (Some n)) ≡ Err k))
+refuses-argument : (kind : ArgKind) (ws : List Want) (n : ℤ) (b : Bool) → is_numeric kind ≡ b → (is_numeric kind ≡ true) ⊎ ((k : TextKind) × (step one (Argument kind ∷ ws) (Number (Some n)) ≡ Err k))
 refuses-argument kind ws n true is = inl is
 refuses-argument kind ws n false is = inr (BadToken, ap (λ b. pushed (cond b (cond (is_within (Num n) kind) (Ok []) (Err Range)) (Err BadToken)) ws) is)
 
-refuses-number : (ws : List Want) (n : ℤ) → NumberFirst ws ⊎ ((k : TextKind) × (step ws (Number (Some n)) ≡ Err k))
+refuses-number : (ws : List Want) (n : ℤ) → NumberFirst ws ⊎ ((k : TextKind) × (step one ws (Number (Some n)) ≡ Err k))
 refuses-number [] n = inr (BadToken, refl)
 refuses-number (Network room ∷ ws) n = inr (BadToken, refl)
 refuses-number (Parts room ∷ ws) n = inr (BadToken, refl)
@@ -244,12 +245,11 @@ refuses-number (Finish ∷ ws) n = inr (BadToken, refl)
 number-first : (ts : List Token) (ws : List Want) → Reaches ts ws → AwaitsNumber ts → NumberFirst ws
 number-first ts ws h (n, begins) = by (refuses-number ws n)
   where
-    by : NumberFirst ws ⊎ ((k : TextKind) × (step ws (Number (Some n)) ≡ Err k)) → NumberFirst ws
+    by : NumberFirst ws ⊎ ((k : TextKind) × (step one ws (Number (Some n)) ≡ Err k)) → NumberFirst ws
     by (inl numeric) = numeric
     by (inr (k, e)) = absurd (stuck ts ws (Number (Some n)) k h e begins)
 
 Means-Says : (k : TextKind) (ts : List Token) (ws : List Want) (t : Token) → Reaches ts ws → Says k ws t → Means k ts t
-Means-Says TooLong ts ws t h s = s
 Means-Says BadByte ts ws t h s = s
 Means-Says Deep ts ws t h s = (awaits-net ts ws h s.0, s.1)
 Means-Says UnknownName ts ws t h s = (awaits-net ts ws h s.0, s.1)
@@ -261,11 +261,11 @@ Means-Says BadToken ts ws t h s =
     (s.0, s.1, λ a. s.2 (net-first ts ws h a), λ a. s.3 (net-first ts ws h a), λ a. s.4 (number-first ts ws h a))
 
 -- the first fault behind what is taken
-fault-step : (before : List Spot) (s : Spot) (ss : List Spot) (ws : List Want) (f : Fault) (r : Result (List Want) TextKind) → step ws s.token ≡ r → Reaches (tokens_of before) ws
-    → ((next : List Want) → Reaches (tokens_of (before ++ s ∷ [])) next → walk ss next ≡ Err f → IsFault ((before ++ s ∷ []) ++ ss) f)
-    → then_walk s.at (walk ss) r ≡ Err f → IsFault (before ++ s ∷ ss) f
+fault-step : (before : List PlacedToken) (s : PlacedToken) (ss : List PlacedToken) (ws : List Want) (f : Fault) (r : Result (List Want) TextKind) → step one ws s.token ≡ r → Reaches (tokens_of before) ws
+    → ((next : List Want) → Reaches (tokens_of (before ++ s ∷ [])) next → walk one ss next ≡ Err f → IsFault ((before ++ s ∷ []) ++ ss) f)
+    → then_walk s.at (walk one ss) r ≡ Err f → IsFault (before ++ s ∷ ss) f
 fault-step before s ss ws f (Ok next) is h each e =
-    let reached = subst (λ ts. Reaches ts next) (sym (map-append (λ (p : Spot). p.token) before (s ∷ []))) (Reaches-more (tokens_of before) ws s.token next h is) in
+    let reached = subst (λ ts. Reaches ts next) (sym (map-append (λ (p : PlacedToken). p.token) before (s ∷ []))) (Reaches-more (tokens_of before) ws s.token next h is) in
     subst (λ spots. IsFault spots f) (append_assoc before (s ∷ []) ss) (each next reached e)
 fault-step before s ss ws f (Err k) is h each e =
     let same : record { at = s.at; kind = k } ≡ f = cc in
@@ -280,10 +280,10 @@ fault-step before s ss ws f (Err k) is h each e =
       at = sym (ap (λ (g : Fault). g.at) same);
     }
 
-fault-walk : (before : List Spot) (ss : List Spot) (ws : List Want) (f : Fault) → Reaches (tokens_of before) ws → walk ss ws ≡ Err f → IsFault (before ++ ss) f
+fault-walk : (before : List PlacedToken) (ss : List PlacedToken) (ws : List Want) (f : Fault) → Reaches (tokens_of before) ws → walk one ss ws ≡ Err f → IsFault (before ++ ss) f
 fault-walk before [] ws f h e = absurd (cc)
 fault-walk before (s ∷ ss) ws f h e =
-    fault-step before s ss ws f (step ws s.token) refl h (λ next reached walked. fault-walk (before ++ s ∷ []) ss next f reached walked) e
+    fault-step before s ss ws f (step one ws s.token) refl h (λ next reached walked. fault-walk (before ++ s ∷ []) ss next f reached walked) e
 
-pub first_fault : (spots : List Spot) (f : Fault) → walk spots start ≡ Err f → IsFault spots f
+pub first_fault : (spots : List PlacedToken) (f : Fault) → walk one spots start ≡ Err f → IsFault spots f
 first_fault spots f e = fault-walk [] spots start f Reaches-start e

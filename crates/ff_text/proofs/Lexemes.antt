@@ -11,8 +11,8 @@ use Rattle.std.specs.Char.{is_ascii_lowercase, is_ascii_digit}
 use Rattle.std.specs.Str.{all_ascii_digits}
 use Rattle.std.specs.Str.Parse.{digits_value}
 use Rattle.ff_rec.specs.Number.{number, printed, IsNumber, PrintedIsRead}
-use Rattle.ff_text.specs.declared.mark.Mark.{Mark}
-use Rattle.ff_text.specs.declared.mark.Mark.TheVariants.{Open, Close, Comma, Less, AtMost, Equal, Unequal, AtLeast, Greater, Semicolon}
+use Rattle.ff_text.specs.declared.text_mark.TextMark.{TextMark}
+use Rattle.ff_text.specs.declared.text_mark.TextMark.TheVariants.{Open, Close, Comma, Less, AtMost, Equal, Unequal, AtLeast, Greater, Semicolon}
 use Rattle.ff_text.specs.Tokens.{Token, Word, Number, Sign, Quoted, Bad, Stop}
 use Rattle.ff_text.specs.Classes.{is_blank, is_in_word, is_in_quotes}
 use Rattle.ff_text.specs.Cutting.{lexeme, piece, word, digits, quoted, is_next, put, spots}
@@ -21,7 +21,7 @@ use Rattle.ff_text.proofs.Ahead.{skipped}
 use Rattle.ff_text.proofs.Runs.{is_front, prefix_len-run, lowercase-range, digit-range, is_blank-above, list_all-digits}
 
 -- bytes that don't go on with a mark, and with a token
-abbrev pub EndsMark : Mark → List ℕ → Type 0
+abbrev pub EndsMark : TextMark → List ℕ → Type 0
 EndsMark Less rest = is_next 61 rest ≡ false
 EndsMark Greater rest = is_next 61 rest ≡ false
 EndsMark _ rest = Unit {0}
@@ -106,7 +106,7 @@ CutsOff-quoted bs rest at all =
     (ap quoted (append_assoc bs (34 ∷ []) rest) ∙ quoted-run bs rest all ∙ ap (piece (Quoted bs)) (omega (arith, length-append bs (34 ∷ []))))
 
 -- marks
-CutsOff-mark : (m : Mark) (rest : List ℕ) (at : ℕ) → EndsMark m rest → CutsOff (Sign m) at (mark_bytes m ++ rest) rest
+CutsOff-mark : (m : TextMark) (rest : List ℕ) (at : ℕ) → EndsMark m rest → CutsOff (Sign m) at (mark_bytes m ++ rest) rest
 CutsOff-mark Open rest at ends = CutsOff-piece (Sign Open) 40 [] rest at refl
 CutsOff-mark Close rest at ends = CutsOff-piece (Sign Close) 41 [] rest at refl
 CutsOff-mark Comma rest at ends = CutsOff-piece (Sign Comma) 44 [] rest at refl

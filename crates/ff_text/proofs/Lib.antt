@@ -1,3 +1,4 @@
+pub mod CutTokens
 pub mod Inside
 pub mod Ahead
 pub mod Stops
@@ -8,6 +9,9 @@ pub mod OpParts
 pub mod OperationTokens
 pub mod Named
 pub mod OneNet
+pub mod Depths
+pub mod Uses
+pub mod Unnamed
 pub mod Completes
 pub mod Sound
 pub mod Viable
@@ -16,10 +20,9 @@ pub mod Parts
 pub mod Eaten
 pub mod ReadFaults
 pub mod Printed
-pub mod Depths
+pub mod SpelledTexts
 pub mod NetPieces
-pub mod Unnamed
+pub mod ReadAgain
 pub mod Opened
-pub mod Uses
 pub mod Shorter
 pub mod PrintedOperations

@@ -12,7 +12,7 @@ use Rattle.ff_ops.specs.Arguments.{printed_argument}
 use Rattle.ff_ops.specs.Operation.{OpState, printed_arguments}
 use Rattle.ff_ops.specs.Table.{name_of}
 use Rattle.ff_ops.specs.declared.row.Row.{Row}
-use Rattle.ff_ops.specs.declared.row.Row.TheVariants.{Id, Add, Sub, Mul, Div, Rem, Neg, Set, Keep, Drop, Swap, Copy, Len, Upper, Lower, If, IfEq, Has, Words, Dup, Halve, Plus, Number, RunSum, Delta, Take, Skip, Uniq, Tally, Total, Min, Max, TallyBy, TotalBy}
+use Rattle.ff_ops.specs.declared.row.Row.TheVariants.{Id}
 use Rattle.ff_ops.specs.declared.arg.Arg.{Arg}
 use Rattle.ff_ops.specs.declared.arg.Arg.TheVariants.{Num, Cmp as Compared, Text}
 use Rattle.ff_net.specs.Tree.{Tree, Trees, Leaf, Pipe, Comb, Farm, OFarm, A2a, Wrap, none, more}
@@ -20,7 +20,7 @@ use Rattle.ff_net.specs.declared.net.Sched.{Sched}
 use Rattle.ff_net.specs.declared.net.Sched.TheVariants.{Rr, Od}
 use Rattle.ff_net.specs.declared.net.Route.{Route}
 use Rattle.ff_net.specs.declared.net.Route.TheVariants.{Rr as RouteRr, Od as RouteOd, By}
-use Rattle.ff_text.specs.declared.mark.Mark.TheVariants.{Open, Close, Comma}
+use Rattle.ff_text.specs.declared.text_mark.TextMark.TheVariants.{Open, Close, Comma}
 use Rattle.ff_text.specs.Tokens.{Token, Word, Number, Sign, Stop}
 use Rattle.ff_text.specs.Cutting.{tokens}
 use Rattle.ff_text.specs.Printing.{Piece, written, printed_text, IsPrintable, is_word, run_together, AreApart, tokens_of, pieces_of, PrintedIsCut}
@@ -243,39 +243,7 @@ end false = off (Sign Close)
 
 is_word-name_of : (row : Row) → is_word (name_of row) ≡ true
 is_word-name_of Id = refl
-is_word-name_of Add = refl
-is_word-name_of Sub = refl
-is_word-name_of Mul = refl
-is_word-name_of Div = refl
-is_word-name_of Rem = refl
-is_word-name_of Neg = refl
-is_word-name_of Set = refl
-is_word-name_of Keep = refl
-is_word-name_of Drop = refl
-is_word-name_of Swap = refl
-is_word-name_of Copy = refl
-is_word-name_of Len = refl
-is_word-name_of Upper = refl
-is_word-name_of Lower = refl
-is_word-name_of If = refl
-is_word-name_of IfEq = refl
-is_word-name_of Has = refl
-is_word-name_of Words = refl
-is_word-name_of Dup = refl
-is_word-name_of Halve = refl
-is_word-name_of Plus = refl
-is_word-name_of Number = refl
-is_word-name_of RunSum = refl
-is_word-name_of Delta = refl
-is_word-name_of Take = refl
-is_word-name_of Skip = refl
-is_word-name_of Uniq = refl
-is_word-name_of Tally = refl
-is_word-name_of Total = refl
-is_word-name_of Min = refl
-is_word-name_of Max = refl
-is_word-name_of TallyBy = refl
-is_word-name_of TotalBy = refl
+is_word-name_of row = refl
 
 is_word-sched_word : (s : Sched) → is_word (sched_word s) ≡ true
 is_word-sched_word Rr = refl

@@ -1,13 +1,12 @@
 -- Networks that are spelled alike are the same, whatever stands behind them.
-use Rattle.std.proofs.Common.{◌≡◌, ℕ, zero, suc, Bool, true, false, List, [], ◌∷◌, ◌++◌, map, codes, Option, None, Some, Result, Ok, ℤ, refl, sym, ap, subst, ◌∙◌, append_assoc}
+use Rattle.std.proofs.Common.{◌≡◌, ℕ, zero, suc, Bool, true, false, List, [], ◌∷◌, ◌++◌, map, codes, Option, None, Some, ℤ, refl, sym, ap, subst, ◌∙◌, append_assoc}
 use Rattle.ff_rec.specs.Fields.{same_bytes}
 use Rattle.ff_rec.specs.declared.cmp.Cmp.{Cmp}
-use Rattle.ff_ops.specs.Operation.{OpState, read_op}
+use Rattle.ff_ops.specs.Operation.{OpState, operation}
 use Rattle.ff_ops.specs.Table.{name_of, kinds_of, row_named}
 use Rattle.ff_ops.specs.declared.arg.Arg.{Arg}
 use Rattle.ff_ops.specs.declared.arg.Arg.TheVariants.{Num, Cmp as Compared}
 use Rattle.ff_ops.specs.declared.arg.ArgKind.{ArgKind}
-use Rattle.ff_ops.specs.declared.op.OpFault.{OpFault}
 use Rattle.ff_net.specs.Tree.{Tree, Trees, Leaf, Pipe, Comb, Farm, OFarm, A2a, Wrap, none, more}
 use Rattle.ff_net.specs.declared.net.Sched.{Sched}
 use Rattle.ff_net.specs.declared.net.Sched.TheVariants.{Rr, Od}
@@ -16,13 +15,13 @@ use Rattle.ff_net.specs.declared.net.Route.TheVariants.{Rr as RouteRr, Od as Rou
 use Rattle.ff_net.specs.declared.net.Test.{Test}
 use Rattle.ff_text.specs.declared.form.Form.{Form}
 use Rattle.ff_text.specs.declared.form.Form.TheVariants.{Pipe as PipeForm, Comb as CombForm, Farm as FarmForm, OFarm as OFarmForm, A2a as A2aForm, Wrap as WrapForm}
-use Rattle.ff_text.specs.declared.mark.Mark.TheVariants.{Open, Close}
+use Rattle.ff_text.specs.declared.text_mark.TextMark.TheVariants.{Open, Close}
 use Rattle.ff_text.specs.Tokens.{Token, Word, Sign}
-use Rattle.ff_text.specs.OperationTokens.{argument_token, argument, IsNew, spelling as operation_spelling}
-use Rattle.ff_text.specs.Grammar.{form_named, spelling, parts_spelling, behind_spelling, route_spelling, sched_word, count_token, AllFit, IsNet, AreParts, AreBehind}
+use Rattle.ff_text.specs.OperationTokens.{argument_token, argument, IsNew, spelling as operation_spelling, AllFit}
+use Rattle.ff_text.specs.Grammar.{form_named, spelling, parts_spelling, behind_spelling, route_spelling, sched_word, count_token, IsNet, AreParts, AreBehind}
 use Rattle.ff_text.specs.SpellingLaw.{SpellingIsOfOneNet}
 use Rattle.ff_text.proofs.Named.{form_named-row_named}
-use Rattle.ff_text.proofs.OpParts.{IsNew-named, IsNew-AllFit}
+use Rattle.ff_text.proofs.OpParts.{row_named-name_of}
 use Rattle.ff_text.proofs.OperationTokens.{argument-argument_token}
 
 -- arguments of the same kinds
@@ -50,13 +49,10 @@ operation-same : (o p : OpState) (xs ys : List Token) → IsNew o → IsNew p �
 operation-same o p xs ys h k e =
     let front : name_of o.row ≡ name_of p.row = cc in
     let behind : map argument_token o.args ++ xs ≡ map argument_token p.args ++ ys = cc in
-    let found : Some o.row ≡ Some p.row = sym (IsNew-named o h) ∙ ap row_named front ∙ IsNew-named p k in
+    let found : Some o.row ≡ Some p.row = sym (row_named-name_of o.row) ∙ ap row_named front ∙ row_named-name_of p.row in
     let rows : o.row ≡ p.row = cc in
-    let others = arguments-same o.args p.args (kinds_of o.row) xs ys (IsNew-AllFit o h) (subst (λ row. AllFit p.args (kinds_of row)) (sym rows) (IsNew-AllFit p k)) behind in
-    let made : ◌≡◌ {A = Result OpState OpFault} (Ok o) (Ok p) =
-    sym h ∙ ap (λ name. read_op name o.args) front ∙ ap (λ args. read_op (name_of p.row) args) others.0 ∙ k in
-    let same : o ≡ p = cc in
-    (same, others.1)
+    let others = arguments-same o.args p.args (kinds_of o.row) xs ys h.1 (subst (λ row. AllFit p.args (kinds_of row)) (sym rows) k.1) behind in
+    (h.0 ∙ ap (λ row. operation row o.args) rows ∙ ap (operation p.row) others.0 ∙ sym k.0, others.1)
 
 -- the words of schedules and routes
 sched_word-same : (s r : Sched) → sched_word s ≡ sched_word r → s ≡ r
@@ -101,7 +97,7 @@ form_of (Wrap n w test) = Some WrapForm
 
 form_of-front : (t : Tree OpState) (room : ℕ) (xs : List Token) → IsNet t room
     → (name : List ℕ) × (rest : List Token) × (spelling t ++ xs ≡ Word name ∷ rest) × (form_named name ≡ form_of t)
-form_of-front (Leaf o) room xs h = (name_of o.row, map argument_token o.args ++ xs, refl, form_named-row_named (name_of o.row) o.row (IsNew-named o h))
+form_of-front (Leaf o) room xs h = (name_of o.row, map argument_token o.args ++ xs, refl, form_named-row_named (name_of o.row) o.row (row_named-name_of o.row))
 form_of-front (Pipe ts) room xs h = (codes "pipe", Sign Open ∷ parts_spelling ts ++ xs, refl, refl)
 form_of-front (Comb ts) room xs h = (codes "comb", Sign Open ∷ parts_spelling ts ++ xs, refl, refl)
 form_of-front (Farm n s w) room xs h = (codes "farm", _, refl, refl)

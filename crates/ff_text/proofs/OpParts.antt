@@ -1,6 +1,6 @@
 -- What an operation is read from: the name of its row, and arguments that fit one by one.
 use Rattle.std.proofs.Common.{◌≡◌, ◌==◌, ◌+◌, ℕ, Bool, true, false, not, ◌&&◌, cond, List, [], ◌∷◌, length, Option, None, Some, Result, Ok, Err, refl, sym, ap, subst, ◌∙◌, arith}
-use Rattle.std.proofs.lemmas.Bool.{eq-eqb, eqb-true}
+use Rattle.std.proofs.lemmas.Bool.{eqb-true}
 use Rattle.std.proofs.lemmas.Iterator.Adapters.{position_from-zero}
 use Rattle.std.specs.List.{position_from, zip}
 use Rattle.std.specs.Prelude.{find}
@@ -15,26 +15,18 @@ use Rattle.ff_ops.specs.declared.op.OpFault.{OpFault}
 use Rattle.ff_ops.specs.declared.op.OpFault.TheVariants.{UnknownOp, ArgCount, ArgKind as WrongKind, ArgRange}
 use Rattle.ff_ops.specs.declared.row.Row.{Row}
 use Rattle.ff_ops.specs.declared.row.TheConstants.{ROWS}
-use Rattle.ff_text.specs.OperationTokens.{IsNew}
-use Rattle.ff_text.specs.Grammar.{AllFit}
+use Rattle.ff_ops.specs.declared.row.Row.TheVariants.{Id}
+use Rattle.ff_text.specs.OperationTokens.{IsNew, AllFit}
 
 -- tests of which none fails
 passed-front : (b : Bool) (i : ℕ) (rest : Option ℕ) → cond (not b) (Some i) rest ≡ None → (b ≡ true) × (rest ≡ None)
 passed-front true i rest e = (refl, e)
 passed-front false i rest e = absurd (cc)
 
-passes-front : (b : Bool) (i : ℕ) (rest : Option ℕ) → b ≡ true → rest ≡ None → cond (not b) (Some i) rest ≡ None
-passes-front true i rest is e = e
-passes-front false i rest is e = absurd (cc)
-
 both-true : (b c : Bool) → b ≡ true → c ≡ true → (b && c) ≡ true
 both-true true true e h = refl
 both-true true false e h = absurd (cc)
 both-true false c e h = absurd (cc)
-
-parts-true : (b c : Bool) → (b && c) ≡ true → (b ≡ true) × (c ≡ true)
-parts-true true c e = (refl, e)
-parts-true false c e = absurd (cc)
 
 AllFit-none : (i j : ℕ) (args : List Arg) (kinds : List ArgKind) → length args ≡ length kinds
     → position_from (λ a. not (suits a.0 a.1)) i (zip args kinds) ≡ None → position_from (λ a. not (is_within a.0 a.1)) j (zip args kinds) ≡ None → AllFit args kinds
@@ -46,23 +38,11 @@ AllFit-none i j (a ∷ as') (k ∷ ks) len u o =
     let w = passed-front (is_within a k) j (position_from (λ a. not (is_within a.0 a.1)) (j + 1) (zip as' ks)) o in
     (both-true (suits a k) (is_within a k) s.0 w.0, AllFit-none (i + 1) (j + 1) as' ks (omega arith) s.1 w.1)
 
-none-AllFit : (i j : ℕ) (args : List Arg) (kinds : List ArgKind) → AllFit args kinds
-    → (length args ≡ length kinds) × (position_from (λ a. not (suits a.0 a.1)) i (zip args kinds) ≡ None) × (position_from (λ a. not (is_within a.0 a.1)) j (zip args kinds) ≡ None)
-none-AllFit i j [] [] h = (refl, refl, refl)
-none-AllFit i j [] (k ∷ ks) h = absurd h
-none-AllFit i j (a ∷ as') [] h = absurd h
-none-AllFit i j (a ∷ as') (k ∷ ks) h =
-    let p = parts-true (suits a k) (is_within a k) h.0 in
-    let q = none-AllFit (i + 1) (j + 1) as' ks h.1 in (
-      omega (arith, q.0),
-      passes-front (suits a k) i (position_from (λ a. not (suits a.0 a.1)) (i + 1) (zip as' ks)) p.0 q.1,
-      passes-front (is_within a k) j (position_from (λ a. not (is_within a.0 a.1)) (j + 1) (zip as' ks)) p.1 q.2,
-    )
-
 -- what an operation is read from
 record IsReadFrom (name : List ℕ) (args : List Arg) (o : OpState) : Type 0 where
   pub named : row_named name ≡ Some o.row
   pub given : o.args ≡ args
+  pub made : o ≡ operation o.row o.args
   pub fit : AllFit args (kinds_of o.row)
 
 abbrev Reads : List ℕ → List Arg → Result OpState OpFault → Type 0
@@ -85,7 +65,7 @@ Reads-within : (name : List ℕ) (args : List Arg) (row : Row) → row_named nam
 Reads-within name args row named len u None w o h =
     let same : operation row args ≡ o = cc in
     let fit = AllFit-none 0 0 args (kinds_of row) len (sym (position_from-zero (λ a. not (suits a.0 a.1)) (zip args (kinds_of row))) ∙ u) (sym (position_from-zero (λ a. not (is_within a.0 a.1)) (zip args (kinds_of row))) ∙ w) in
-    record { named = named ∙ ap (λ s. Some s.row) same; given = ap (λ s. s.args) (sym same); fit = subst (λ (s : OpState). AllFit args (kinds_of s.row)) same fit }
+    record { named = named ∙ ap (λ s. Some s.row) same; given = ap (λ s. s.args) (sym same); made = subst (λ (s : OpState). s ≡ operation s.row s.args) same refl; fit = subst (λ (s : OpState). AllFit args (kinds_of s.row)) same fit }
 Reads-within name args row named len u (Some k) w o h = absurd (cc)
 
 Reads-suited : (name : List ℕ) (args : List Arg) (row : Row) → row_named name ≡ Some row → length args ≡ length (kinds_of row)
@@ -124,22 +104,12 @@ pub read_op-parts : (name : List ℕ) (args : List Arg) (o : OpState) → read_o
 read_op-parts name args o e =
     let h = IsReadFrom-read_op name args o e in (name_of-row_named name o.row h.named, h.given)
 
+-- and its arguments fit
 pub IsNew-read_op : (name : List ℕ) (args : List Arg) (o : OpState) → read_op name args ≡ Ok o → IsNew o
 IsNew-read_op name args o e =
-    let h = read_op-parts name args o e in ap (λ n. read_op n o.args) h.0 ∙ ap (λ l. read_op name l) h.1 ∙ e
+    let h = IsReadFrom-read_op name args o e in (h.made, subst (λ (given : List Arg). AllFit given (kinds_of o.row)) (sym h.given) h.fit)
 
--- its name is that of its row, and its arguments fit
-pub IsNew-named : (o : OpState) → IsNew o → row_named (name_of o.row) ≡ Some o.row
-IsNew-named o new = (IsReadFrom-read_op (name_of o.row) o.args o new).named
-
-pub IsNew-AllFit : (o : OpState) → IsNew o → AllFit o.args (kinds_of o.row)
-IsNew-AllFit o new = (IsReadFrom-read_op (name_of o.row) o.args o new).fit
-
--- arguments that fit make an operation
-pub read_op-AllFit : (name : List ℕ) (row : Row) (args : List Arg) → row_named name ≡ Some row → AllFit args (kinds_of row) → read_op name args ≡ Ok (operation row args)
-read_op-AllFit name row args named fit =
-    let h = none-AllFit 0 0 args (kinds_of row) fit in
-    ap (by_row args) named
-    ∙ ap (λ b. cond b (suited args row (first_unsuited args (kinds_of row))) (Err ArgCount)) (eq-eqb (length args) (length (kinds_of row)) h.0)
-    ∙ ap (suited args row) (position_from-zero (λ a. not (suits a.0 a.1)) (zip args (kinds_of row)) ∙ h.1)
-    ∙ ap (within args row) (position_from-zero (λ a. not (is_within a.0 a.1)) (zip args (kinds_of row)) ∙ h.2)
+-- each row is the one with its name
+pub row_named-name_of : (row : Row) → row_named (name_of row) ≡ Some row
+row_named-name_of Id = refl
+row_named-name_of row = refl

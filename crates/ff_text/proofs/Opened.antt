@@ -1,10 +1,8 @@
 -- A network whose nodes are before their first records is the same as its copy.
-use Rattle.std.proofs.Common.{◌≡◌, ℕ, zero, suc, List, [], ◌∷◌, ◌++◌, Result, Ok, refl, sym, ap, ◌∙◌}
+use Rattle.std.proofs.Common.{◌≡◌, ℕ, zero, suc, List, [], ◌∷◌, ◌++◌, refl, sym, ap, ◌∙◌}
 use Rattle.ff_ops.specs.Families.{family_of, family_opening}
 use Rattle.ff_ops.specs.Operation.{OpState, operation, op_node}
-use Rattle.ff_ops.specs.Table.{name_of}
 use Rattle.ff_ops.specs.declared.arg.Arg.{Arg}
-use Rattle.ff_ops.specs.declared.op.OpFault.{OpFault}
 use Rattle.ff_ops.specs.declared.row.Row.{Row}
 use Rattle.ff_ops.specs.declared.row.Row.TheVariants.{Id}
 use Rattle.ff_net.specs.Tree.{Tree, Trees, Leaf, Pipe, Comb, Farm, OFarm, A2a, Wrap, none, more, tree_of, trees_of}
@@ -12,7 +10,6 @@ use Rattle.ff_net.specs.declared.net.Net.{Net}
 use Rattle.ff_text.specs.Copies.{opened, all_opened}
 use Rattle.ff_text.specs.Grammar.{IsNet, AreParts, AreBehind}
 use Rattle.ff_text.specs.OperationTokens.{IsNew}
-use Rattle.ff_text.proofs.OpParts.{IsNew-named, IsNew-AllFit, read_op-AllFit}
 
 -- what is read is before its first record
 family_opening-family_of : (row : Row) (args : List Arg) → family_opening (family_of row args) ≡ family_of row args
@@ -24,10 +21,7 @@ opening-operation row args = ap (λ family. record (operation row args) { family
 
 opening-new : (o : OpState) → IsNew o → op_node.opening o ≡ o
 opening-new o h =
-    let made : ◌≡◌ {A = Result OpState OpFault} (Ok o) (Ok (operation o.row o.args)) =
-    sym h ∙ read_op-AllFit (name_of o.row) o.row o.args (IsNew-named o h) (IsNew-AllFit o h) in
-    let same : o ≡ operation o.row o.args = cc in
-    ap op_node.opening same ∙ opening-operation o.row o.args ∙ sym same
+    ap op_node.opening h.0 ∙ opening-operation o.row o.args ∙ sym h.0
 
 mutual
   pub opened-net : (t : Tree OpState) (room : ℕ) → IsNet t room → opened t ≡ t

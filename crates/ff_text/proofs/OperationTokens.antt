@@ -5,8 +5,8 @@ use Rattle.ff_rec.specs.declared.cmp.Cmp.{Cmp}
 use Rattle.ff_rec.specs.declared.cmp.Cmp.TheVariants.{Lt, Le, Eq, Ne, Ge, Gt}
 use Rattle.ff_ops.specs.declared.arg.Arg.{Arg}
 use Rattle.ff_ops.specs.declared.arg.Arg.TheVariants.{Num, Cmp as Compared, Text}
-use Rattle.ff_text.specs.declared.mark.Mark.{Mark}
-use Rattle.ff_text.specs.declared.mark.Mark.TheVariants.{Open, Close, Comma, Less, AtMost, Equal, Unequal, AtLeast, Greater, Semicolon}
+use Rattle.ff_text.specs.declared.text_mark.TextMark.{TextMark}
+use Rattle.ff_text.specs.declared.text_mark.TextMark.TheVariants.{Open, Close, Comma, Less, AtMost, Equal, Unequal, AtLeast, Greater, Semicolon}
 use Rattle.ff_text.specs.Tokens.{Token, Word, Number, Sign, Quoted, Bad, Stop}
 use Rattle.ff_text.specs.OperationTokens.{mark_of, argument_token, comparison, argument}
 
@@ -19,7 +19,7 @@ comparison-mark_of Ne = refl
 comparison-mark_of Ge = refl
 comparison-mark_of Gt = refl
 
-mark_of-comparison : (m : Mark) (cmp : Cmp) → comparison m ≡ Some cmp → m ≡ mark_of cmp
+mark_of-comparison : (m : TextMark) (cmp : Cmp) → comparison m ≡ Some cmp → m ≡ mark_of cmp
 mark_of-comparison Open cmp e = absurd (cc)
 mark_of-comparison Close cmp e = absurd (cc)
 mark_of-comparison Comma cmp e = absurd (cc)
@@ -37,7 +37,7 @@ argument-argument_token (Num n) = refl
 argument-argument_token (Compared cmp) = ap (option_map (λ c. Compared c)) (comparison-mark_of cmp)
 argument-argument_token (Text bytes) = refl
 
-argument-sign : (m : Mark) (c : Option Cmp) (a : Arg) → comparison m ≡ c → option_map (λ cmp. Compared cmp) c ≡ Some a → Sign m ≡ argument_token a
+argument-sign : (m : TextMark) (c : Option Cmp) (a : Arg) → comparison m ≡ c → option_map (λ cmp. Compared cmp) c ≡ Some a → Sign m ≡ argument_token a
 argument-sign m None a is e = absurd (cc)
 argument-sign m (Some cmp) a is e =
     let same : Compared cmp ≡ a = cc in ap Sign (mark_of-comparison m cmp is) ∙ ap argument_token same

@@ -3,7 +3,7 @@ use Rattle.std.proofs.Common.{◌≡◌, ℕ, Bool, true, false, List, [], ◌�
 use Rattle.ff_ops.specs.Operation.{OpState}
 use Rattle.ff_net.specs.Tree.{Trees, none, more, tree_of, trees_of}
 use Rattle.ff_net.specs.declared.net.Net.{Net}
-use Rattle.ff_text.specs.declared.mark.Mark.TheVariants.{Close, Comma}
+use Rattle.ff_text.specs.declared.text_mark.TextMark.TheVariants.{Close, Comma}
 use Rattle.ff_text.specs.Tokens.{Token, Sign}
 use Rattle.ff_text.specs.Grammar.{IsNet, AreParts, AreBehind}
 use Rattle.ff_text.specs.Names.{Name}

@@ -3,7 +3,7 @@ use Rattle.std.proofs.Common.{◌≡◌, ◌≤◌, List, [], ◌∷◌, ◌++�
 use Rattle.std.specs.Prelude.{◌⊎◌}
 use Rattle.ff_ops.specs.Operation.{OpState}
 use Rattle.ff_net.specs.Tree.{Tree, Trees, Leaf, Pipe, Comb, Farm, OFarm, A2a, Wrap, none, more}
-use Rattle.ff_text.specs.declared.mark.Mark.TheVariants.{Close}
+use Rattle.ff_text.specs.declared.text_mark.TextMark.TheVariants.{Close}
 use Rattle.ff_text.specs.Tokens.{Token, Word, Number, Sign}
 use Rattle.ff_text.specs.OperationTokens.{mark_of, spelling as operation_spelling}
 use Rattle.ff_text.specs.Grammar.{sched_word, count_token, route_spelling}

@@ -1,8 +1,8 @@
 -- Which bytes a word, a number, a quoted text and a comment may have behind their first.
 use Rattle.std.specs.Prelude.{ℕ, Bool, ◌==◌, ◌||◌, not}
 use Rattle.std.specs.Char.{is_ascii_lowercase, is_ascii_digit}
-use Rattle.ff_text.specs.declared.class.Class.{Class}
-use Rattle.ff_text.specs.declared.class.Class.TheVariants.{InWord, Digit, InQuotes, InLine}
+use Rattle.ff_text.specs.declared.byte_class.ByteClass.{ByteClass}
+use Rattle.ff_text.specs.declared.byte_class.ByteClass.TheVariants.{InWord, Digit, InQuotes, InLine}
 
 -- space, tab, newline and carriage return
 abbrev pub is_blank : ℕ → Bool
@@ -21,7 +21,7 @@ abbrev pub is_in_line : ℕ → Bool
 is_in_line b = not (b == 10)
 
 -- the classes by their names in the code
-abbrev pub is_of : Class → ℕ → Bool
+abbrev pub is_of : ByteClass → ℕ → Bool
 is_of InWord = is_in_word
 is_of Digit = is_ascii_digit
 is_of InQuotes = is_in_quotes

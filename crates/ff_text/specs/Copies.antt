@@ -3,7 +3,7 @@ use Rattle.ff_ops.specs.Operation.{OpState, op_node}
 use Rattle.ff_net.specs.Tree.{Tree, Trees, Leaf, Pipe, Comb, Farm, OFarm, A2a, Wrap, none, more}
 
 abbrev mutual
-  -- the same network, each of its nodes before its first record
+  -- a network with each of its nodes before its first record
   pub opened : Tree OpState → Tree OpState
   opened (Leaf o) = Leaf (op_node.opening o)
   opened (Pipe ts) = Pipe (all_opened ts)

@@ -3,8 +3,8 @@ use Rattle.std.specs.Prelude.{ℕ, zero, suc, ◌==◌, Bool, false, if◌then�
 use Rattle.std.specs.List.{prefix_len}
 use Rattle.std.specs.Char.{is_ascii_lowercase, is_ascii_digit}
 use Rattle.ff_rec.specs.Number.{number}
-use Rattle.ff_text.specs.declared.mark.Mark.TheVariants.{Open, Close, Comma, Less, AtMost, Equal, Unequal, AtLeast, Greater, Semicolon}
-use Rattle.ff_text.specs.Tokens.{Token, Word, Number, Sign, Quoted, Bad, Stop, Spot}
+use Rattle.ff_text.specs.declared.text_mark.TextMark.TheVariants.{Open, Close, Comma, Less, AtMost, Equal, Unequal, AtLeast, Greater, Semicolon}
+use Rattle.ff_text.specs.Tokens.{Token, Word, Number, Sign, Quoted, Bad, Stop, PlacedToken}
 use Rattle.ff_text.specs.Classes.{is_blank, is_in_word, is_in_quotes, is_in_line}
 
 -- What stands at a byte: a token, or none where a blank or a comment does; and how many of the bytes behind belong to it.
@@ -73,21 +73,21 @@ lexeme b bs =
     else sign b bs)))))
 
 -- a token in front of the spots behind it; a gap is left out
-abbrev pub put : Option Token → ℕ → List Spot → List Spot
+abbrev pub put : Option Token → ℕ → List PlacedToken → List PlacedToken
 put None at behind = behind
 put (Some token) at behind = record { token = token; at = at } ∷ behind
 
 -- the spots of a text whose first byte stands at `at`; so many of its first bytes belong to what stands before it
-abbrev pub spots : ℕ → ℕ → List ℕ → List Spot
+abbrev pub spots : ℕ → ℕ → List ℕ → List PlacedToken
 spots skip at [] = record { token = Stop; at = at } ∷ []
 spots (suc skip) at (b ∷ bs) = spots skip (suc at) bs
 spots zero at (b ∷ bs) = put (lexeme b bs).token at (spots (lexeme b bs).more (suc at) bs)
 
 -- A whole text, cut from the front, each token as long as possible; `Stop` is the last, at the length of the text.
 -- Behind a bad byte the cutting goes on at the next byte.
-abbrev pub tokens : List ℕ → List Spot
+abbrev pub tokens : List ℕ → List PlacedToken
 tokens text = spots 0 0 text
 
 -- the spots from the place `at` of a text on
-abbrev pub ahead : List ℕ → ℕ → List Spot
+abbrev pub ahead : List ℕ → ℕ → List PlacedToken
 ahead text at = spots 0 at (drop at text)

@@ -5,10 +5,10 @@ use Rattle.ff_ops.specs.Operation.{OpState}
 use Rattle.ff_ops.specs.Table.{row_named}
 use Rattle.ff_net.specs.Tree.{Tree}
 use Rattle.ff_text.specs.declared.fault.TextKind.{TextKind}
-use Rattle.ff_text.specs.declared.fault.TextKind.TheVariants.{TooLong, BadByte, BadToken, UnknownName, Range, Deep, End, Large, TakenName}
+use Rattle.ff_text.specs.declared.fault.TextKind.TheVariants.{BadByte, BadToken, UnknownName, Range, Deep, End, Large, TakenName}
 use Rattle.ff_text.specs.declared.form.Form.{Form}
-use Rattle.ff_text.specs.declared.mark.Mark.TheVariants.{Semicolon}
-use Rattle.ff_text.specs.Tokens.{Token, Word, Number, Sign, Bad, Stop, Spot}
+use Rattle.ff_text.specs.declared.text_mark.TextMark.TheVariants.{Semicolon}
+use Rattle.ff_text.specs.Tokens.{Token, Word, Number, Sign, Bad, Stop, PlacedToken}
 use Rattle.ff_text.specs.Printing.{tokens_of}
 use Rattle.ff_text.specs.Grammar.{form_word, form_named, spelling, IsNet}
 
@@ -46,7 +46,6 @@ IsNumberToken t = (n : Option ℤ) × (t ≡ Number n)
 
 -- what a kind of fault says of a token behind others
 abbrev pub Means : TextKind → List Token → Token → Type 0
-Means TooLong before t = ⊥
 Means BadByte before t = IsBadByte t
 Means Deep before t = AwaitsNet before × IsFormWord t
 Means UnknownName before t = AwaitsNet before × IsUnknownWord t
@@ -63,10 +62,10 @@ pub record Fault : Type 0 where
   pub kind : TextKind
 
 -- the first token with which no text of a network goes on
-pub record IsFault (spots : List Spot) (f : Fault) : Type 0 where
-  pub before : List Spot
-  pub spot : Spot
-  pub after : List Spot
+pub record IsFault (spots : List PlacedToken) (f : Fault) : Type 0 where
+  pub before : List PlacedToken
+  pub spot : PlacedToken
+  pub after : List PlacedToken
   pub whole : spots ≡ before ++ spot ∷ after
   pub viable : Begins (tokens_of before)
   pub stuck : Begins (tokens_of before ++ spot.token ∷ []) → ⊥

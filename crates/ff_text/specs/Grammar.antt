@@ -1,7 +1,6 @@
 -- How networks are spelled by tokens.
-use Rattle.std.specs.Prelude.{ℕ, zero, suc, Bool, ◌&&◌, IsTrue, List, [], ◌∷◌, ◌++◌, codes, find, Option, Some, pos}
+use Rattle.std.specs.Prelude.{ℕ, zero, suc, IsTrue, List, [], ◌∷◌, ◌++◌, codes, find, Option, Some, pos}
 use Rattle.ff_rec.specs.Fields.{same_bytes}
-use Rattle.ff_ops.specs.Arguments.{suits, is_within}
 use Rattle.ff_ops.specs.Operation.{OpState}
 use Rattle.ff_ops.specs.declared.arg.Arg.{Arg}
 use Rattle.ff_ops.specs.declared.arg.Arg.TheVariants.{Num}
@@ -15,9 +14,9 @@ use Rattle.ff_net.specs.declared.net.Route.TheVariants.{Rr as RouteRr, Od as Rou
 use Rattle.ff_text.specs.declared.form.Form.{Form}
 use Rattle.ff_text.specs.declared.form.Form.TheVariants.{Pipe as PipeForm, Comb as CombForm, Farm as FarmForm, OFarm as OFarmForm, A2a as A2aForm, Wrap as WrapForm}
 use Rattle.ff_text.specs.declared.form.TheConstants.{FORMS}
-use Rattle.ff_text.specs.declared.mark.Mark.TheVariants.{Open, Close, Comma}
+use Rattle.ff_text.specs.declared.text_mark.TextMark.TheVariants.{Open, Close, Comma}
 use Rattle.ff_text.specs.Tokens.{Token, Word, Number, Sign}
-use Rattle.ff_text.specs.OperationTokens.{mark_of, IsNew, spelling as operation_spelling}
+use Rattle.ff_text.specs.OperationTokens.{mark_of, fits, IsNew, spelling as operation_spelling}
 
 -- the word of a form
 abbrev pub form_word : Form → List ℕ
@@ -69,17 +68,6 @@ abbrev mutual
   pub behind_spelling : Trees OpState → List Token
   behind_spelling none = Sign Close ∷ []
   behind_spelling (more t ts) = Sign Comma ∷ (spelling t ++ behind_spelling ts)
-
--- whether an argument is of a kind, and within its range
-abbrev pub fits : Arg → ArgKind → Bool
-fits a kind = suits a kind && is_within a kind
-
--- arguments of these kinds, each within its range
-abbrev pub AllFit : List Arg → List ArgKind → Type 0
-AllFit [] [] = Unit {0}
-AllFit [] (kind ∷ kinds) = ⊥
-AllFit (a ∷ args) [] = ⊥
-AllFit (a ∷ args) (kind ∷ kinds) = IsTrue (fits a kind) × AllFit args kinds
 
 -- a count or field number of a form, of 32 bits
 abbrev pub a_count : ArgKind

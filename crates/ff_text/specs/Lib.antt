@@ -6,11 +6,11 @@ pub mod Printing
 pub mod CutLaws
 pub mod OperationTokens
 pub mod Grammar
-pub mod SpellingLaw
 pub mod Faults
 pub mod Names
 pub mod Wants
 pub mod Spelling
+pub mod SpellingLaw
 pub mod Copies
 pub mod WantLaws
 pub mod Reading

@@ -1,18 +1,20 @@
 -- Operations and their arguments as tokens, and the arguments that tokens are.
-use Rattle.std.specs.Prelude.{◌≡◌, List, ◌∷◌, map, Option, None, Some, Ok}
+use Rattle.std.specs.Prelude.{◌≡◌, Bool, ◌&&◌, IsTrue, List, [], ◌∷◌, map, Option, None, Some}
 use Rattle.std.specs.Option.{option_map}
 use Rattle.ff_rec.specs.declared.cmp.Cmp.{Cmp}
 use Rattle.ff_rec.specs.declared.cmp.Cmp.TheVariants.{Lt, Le, Eq, Ne, Ge, Gt}
-use Rattle.ff_ops.specs.Operation.{OpState, read_op}
-use Rattle.ff_ops.specs.Table.{name_of}
+use Rattle.ff_ops.specs.Operation.{OpState, operation}
+use Rattle.ff_ops.specs.Table.{name_of, kinds_of}
+use Rattle.ff_ops.specs.Arguments.{suits, is_within}
+use Rattle.ff_ops.specs.declared.arg.ArgKind.{ArgKind}
 use Rattle.ff_ops.specs.declared.arg.Arg.{Arg}
 use Rattle.ff_ops.specs.declared.arg.Arg.TheVariants.{Num, Cmp as Compared, Text}
-use Rattle.ff_text.specs.declared.mark.Mark.{Mark}
-use Rattle.ff_text.specs.declared.mark.Mark.TheVariants.{Open, Close, Comma, Less, AtMost, Equal, Unequal, AtLeast, Greater, Semicolon}
+use Rattle.ff_text.specs.declared.text_mark.TextMark.{TextMark}
+use Rattle.ff_text.specs.declared.text_mark.TextMark.TheVariants.{Open, Close, Comma, Less, AtMost, Equal, Unequal, AtLeast, Greater, Semicolon}
 use Rattle.ff_text.specs.Tokens.{Token, Word, Number, Sign, Quoted, Bad, Stop}
 
 -- the mark of a comparison
-abbrev pub mark_of : Cmp → Mark
+abbrev pub mark_of : Cmp → TextMark
 mark_of Lt = Less
 mark_of Le = AtMost
 mark_of Eq = Equal
@@ -30,12 +32,23 @@ argument_token (Text bytes) = Quoted bytes
 abbrev pub spelling : OpState → List Token
 spelling o = Word (name_of o.row) ∷ map argument_token o.args
 
--- an operation whose arguments fit it, before its first record
+-- whether an argument is of a kind, and within its range
+abbrev pub fits : Arg → ArgKind → Bool
+fits a kind = suits a kind && is_within a kind
+
+-- arguments of these kinds, each within its range
+abbrev pub AllFit : List Arg → List ArgKind → Type 0
+AllFit [] [] = Unit {0}
+AllFit [] (kind ∷ kinds) = ⊥
+AllFit (a ∷ args) [] = ⊥
+AllFit (a ∷ args) (kind ∷ kinds) = IsTrue (fits a kind) × AllFit args kinds
+
+-- an operation whose arguments fit its row, before its first record
 abbrev pub IsNew : OpState → Type 0
-IsNew o = read_op (name_of o.row) o.args ≡ Ok o
+IsNew o = (o ≡ operation o.row o.args) × AllFit o.args (kinds_of o.row)
 
 -- the comparison that a mark is
-abbrev pub comparison : Mark → Option Cmp
+abbrev pub comparison : TextMark → Option Cmp
 comparison Open = None
 comparison Close = None
 comparison Comma = None

@@ -1,5 +1,5 @@
 -- Printed networks are read again.
-use Rattle.std.specs.Prelude.{◌≡◌, ℕ}
+use Rattle.std.specs.Prelude.{◌≡◌, ℕ, ◌≤◌, List, length}
 use Rattle.std.specs.List.{AllByRecursion}
 use Rattle.ff_rec.specs.Number.{IsNumber}
 use Rattle.ff_ops.specs.Operation.{OpState}
@@ -10,6 +10,10 @@ use Rattle.ff_text.specs.OperationTokens.{argument_token}
 use Rattle.ff_text.specs.Grammar.{IsNet}
 use Rattle.ff_text.specs.Faults.{text_of}
 use Rattle.ff_text.specs.NetPrinting.{printed_net}
+use Rattle.ff_text.specs.Copies.{opened}
+use Rattle.ff_text.specs.Reading.{IsReadFault}
+use Rattle.ff_text.specs.declared.fault.ReadFault.{ReadFault}
+use Rattle.ff_text.specs.declared.fault.ReadFault.TheVariants.{NoMemory}
 
 abbrev mutual
   -- what bytes can stand for: numbers of 64 bits, and texts without quote, tab and newline
@@ -29,3 +33,17 @@ abbrev mutual
 -- a printed network is cut into the tokens that spell it
 abbrev pub PrintedNetsAreSpelled : Type 0
 PrintedNetsAreSpelled = (t : Tree OpState) (room : ℕ) → IsNet t room → CanPrint t → tokens_of (tokens (printed_net t)) ≡ text_of t
+
+-- Bytes are a text of this network and of no other, and no fault is found in them.
+pub record IsTextOf (text : List ℕ) (t : Tree OpState) : Type 0 where
+  pub net : IsNet t 15
+  pub spelled : tokens_of (tokens text) ≡ text_of t
+  pub only : (u : Tree OpState) → IsNet u 15 → tokens_of (tokens text) ≡ text_of u → u ≡ t
+  pub faultless : (fault : ReadFault) → IsReadFault text fault → fault ≡ NoMemory
+
+-- What is printed of a network, whatever its nodes have done, is read as the network with its nodes before their first
+-- records, where it isn't too long for a text.
+abbrev pub PrintedNetsAreReadAgain : Type 0
+PrintedNetsAreReadAgain =
+    (t : Tree OpState) → IsNet (opened t) 15 → CanPrint (opened t) → length (printed_net t) ≤ 65536
+    → IsTextOf (printed_net t) (opened t)

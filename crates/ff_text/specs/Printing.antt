@@ -3,9 +3,9 @@ use Rattle.std.specs.Prelude.{◌≡◌, ℕ, Bool, true, false, ◌&&◌, ◌||
 use Rattle.std.specs.List.{list_all}
 use Rattle.std.specs.Char.{is_ascii_lowercase}
 use Rattle.ff_rec.specs.Number.{IsNumber, printed}
-use Rattle.ff_text.specs.declared.mark.Mark.{Mark}
-use Rattle.ff_text.specs.declared.mark.Mark.TheVariants.{Open, Close, Comma, Less, AtMost, Equal, Unequal, AtLeast, Greater, Semicolon}
-use Rattle.ff_text.specs.Tokens.{Token, Word, Number, Sign, Quoted, Bad, Stop, Spot}
+use Rattle.ff_text.specs.declared.text_mark.TextMark.{TextMark}
+use Rattle.ff_text.specs.declared.text_mark.TextMark.TheVariants.{Open, Close, Comma, Less, AtMost, Equal, Unequal, AtLeast, Greater, Semicolon}
+use Rattle.ff_text.specs.Tokens.{Token, Word, Number, Sign, Quoted, Bad, Stop, PlacedToken}
 use Rattle.ff_text.specs.Classes.{is_in_word, is_in_quotes}
 use Rattle.ff_text.specs.Cutting.{tokens}
 
@@ -15,7 +15,7 @@ pub record Piece : Type 0 where
   pub token : Token
 
 -- the bytes of a mark
-abbrev pub mark_bytes : Mark → List ℕ
+abbrev pub mark_bytes : TextMark → List ℕ
 mark_bytes Open = 40 ∷ []
 mark_bytes Close = 41 ∷ []
 mark_bytes Comma = 44 ∷ []
@@ -85,7 +85,7 @@ AreApart (p ∷ []) = IsPrintable p.token
 AreApart (p ∷ q ∷ ps) = IsPrintable p.token × IsTrue (q.blank || not (run_together p.token q.token)) × AreApart (q ∷ ps)
 
 -- the tokens of spots
-abbrev pub tokens_of : List Spot → List Token
+abbrev pub tokens_of : List PlacedToken → List Token
 tokens_of spots = map (λ s. s.token) spots
 
 -- the tokens of pieces

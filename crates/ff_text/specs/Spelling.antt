@@ -3,7 +3,7 @@ use Rattle.std.specs.Prelude.{◌≡◌, ℕ, List, [], ◌∷◌, ◌++◌, cod
 use Rattle.ff_ops.specs.Operation.{OpState}
 use Rattle.ff_ops.specs.Table.{row_named}
 use Rattle.ff_net.specs.Tree.{Tree, Trees, Leaf, Pipe, Comb, Farm, OFarm, A2a, Wrap, none, more}
-use Rattle.ff_text.specs.declared.mark.Mark.TheVariants.{Open, Close, Comma}
+use Rattle.ff_text.specs.declared.text_mark.TextMark.TheVariants.{Open, Close, Comma}
 use Rattle.ff_text.specs.Tokens.{Token, Word, Number, Sign}
 use Rattle.ff_text.specs.OperationTokens.{mark_of, spelling as operation_spelling}
 use Rattle.ff_text.specs.Grammar.{form_named, sched_word, count_token, route_spelling}
@@ -21,7 +21,7 @@ IsUse names t ts rest = (word : List ℕ) × (ts ≡ Word word ∷ rest) × (for
 abbrev pub InMarks : Front → Front
 InMarks Inner ts rest = (inner : List Token) × (ts ≡ Sign Open ∷ inner) × Inner inner (Sign Close ∷ rest)
 
--- the same behind these tokens
+-- something in `(` and `)` behind these tokens
 abbrev pub MarksBehind : List Token → Front → Front
 MarksBehind before Inner ts rest = (marks : List Token) × (ts ≡ before ++ marks) × InMarks Inner marks rest
 

@@ -1,19 +1,19 @@
 -- What a text is cut into.
 use Rattle.std.specs.Prelude.{ℕ, List, Option, ℤ}
 use Rattle.ff_rec.specs.Lines.{IsPlain}
-use Rattle.ff_text.specs.declared.mark.Mark.{Mark}
+use Rattle.ff_text.specs.declared.text_mark.TextMark.{TextMark}
 
 -- A number outside 64 bits with a sign has no value. `Bad` is a byte at which no token begins, `Stop` the end of a text.
 pub data Token : Type 0 where
   Word : List ℕ → Token
   Number : Option ℤ → Token
-  Sign : Mark → Token
+  Sign : TextMark → Token
   Quoted : List ℕ → Token
   Bad : Token
   Stop : Token
 
 -- a token and the place of its first byte, from 0
-pub record Spot : Type 0 where
+pub record PlacedToken : Type 0 where
   pub token : Token
   pub at : ℕ
 

@@ -2,8 +2,8 @@
 ghost use Rattle.std.specs.Prelude.{◌≡◌, [], ◌∷◌, IfOk, IsTrue, pos, Some};
 ghost use Rattle.ff_ops.specs.Arguments.{is_numeric};
 ghost use Rattle.ff_ops.specs.declared.arg.Arg.TheVariants.{Num, Cmp as Compared};
-ghost use Rattle.ff_text.specs.Grammar.{fits, a_count, IsCount, count_token};
-ghost use Rattle.ff_text.specs.OperationTokens.{argument_token, mark_of};
+ghost use Rattle.ff_text.specs.Grammar.{a_count, IsCount, count_token};
+ghost use Rattle.ff_text.specs.OperationTokens.{argument_token, mark_of, fits};
 ghost use Rattle.ff_text.specs.Printing.{tokens_of};
 ghost use Rattle.ff_text.specs.Reading.{IsEaten};
 ghost use Rattle.ff_text.specs.Seen.{context_of, token_of};
@@ -11,7 +11,7 @@ ghost use Rattle.ff_text.specs.Tokens.{Sign, Number};
 ghost use Rattle.ff_text.specs.Wants.{Argument, is_beyond};
 
 use crate::context::Context;
-use crate::piece::refused;
+use crate::misplaced::{fault_at, misplaced};
 use crate::token_argument::argument;
 use crate::{ReadFault, Reader, TextKind, Token};
 use ff_node::Cmp;
@@ -25,36 +25,29 @@ pub(crate) fn argument_of(
     kind: ArgKind,
     reader: &mut Reader,
 ) -> Result<Arg, ReadFault>
-    ensures eaten { IsEaten (context_of context.now) (Argument kind ∷ []) result reader.old reader.new }
+    ensures eaten { IsEaten (context_of context.now) (Argument kind ∷ [])
+        result reader.old reader.new }
     ensures fits { IfOk result (λ arg. IsTrue (fits arg kind)) }
-    ensures text { IfOk result (λ arg. tokens_of reader.old ≡ argument_token arg ∷ tokens_of reader.new) }
+    ensures text { IfOk result (λ arg.
+        tokens_of reader.old ≡ argument_token arg ∷ tokens_of reader.new) }
 {
     let spot = reader.next();
     match argument(alloc, spot.token)? {
         Some(arg) => {
             if !arg.suits(kind) {
-                return Err(refused(context.version, spot));
+                return Err(misplaced(context.version, spot));
             }
             if !arg.is_within(kind) {
-                return Err(out_of_range(spot.at));
+                return Err(fault_at(spot.at, TextKind::Range));
             }
             Ok(arg)
         }
         None => {
             if is_beyond(spot.token) && is_numeric(kind) {
-                return Err(out_of_range(spot.at));
+                return Err(fault_at(spot.at, TextKind::Range));
             }
-            Err(refused(context.version, spot))
+            Err(misplaced(context.version, spot))
         }
-    }
-}
-
-fn out_of_range(at: usize) -> ReadFault
-    ensures { result ≡ ReadFault.Text at TextKind.Range }
-{
-    ReadFault::Text {
-        at,
-        kind: TextKind::Range,
     }
 }
 
@@ -65,6 +58,7 @@ fn is_beyond(token: Token) -> bool
     matches!(token, Token::Number(None))
 }
 
+// Whether numbers are of the kind.
 fn is_numeric(kind: ArgKind) -> bool
     ensures { result ≡ is_numeric kind }
 {
@@ -73,7 +67,8 @@ fn is_numeric(kind: ArgKind) -> bool
 
 /// A count of 32 bits.
 pub(crate) fn count(alloc: Global, context: &Context, reader: &mut Reader) -> Result<u32, ReadFault>
-    ensures eaten { IsEaten (context_of context.now) (Argument a_count ∷ []) result reader.old reader.new }
+    ensures eaten { IsEaten (context_of context.now) (Argument a_count ∷ [])
+        result reader.old reader.new }
     ensures count { IfOk result (λ n. IsCount n) }
     ensures text { IfOk result (λ n. tokens_of reader.old ≡ count_token n ∷ tokens_of reader.new) }
 {
@@ -100,8 +95,10 @@ pub(crate) fn comparison_mark(
     context: &Context,
     reader: &mut Reader,
 ) -> Result<Cmp, ReadFault>
-    ensures eaten { IsEaten (context_of context.now) (Argument ArgKind.Cmp ∷ []) result reader.old reader.new }
-    ensures text { IfOk result (λ cmp. tokens_of reader.old ≡ Sign (mark_of cmp) ∷ tokens_of reader.new) }
+    ensures eaten { IsEaten (context_of context.now) (Argument ArgKind.Cmp ∷ [])
+        result reader.old reader.new }
+    ensures text { IfOk result (λ cmp.
+        tokens_of reader.old ≡ Sign (mark_of cmp) ∷ tokens_of reader.new) }
 {
     Ok(as_cmp(&argument_of(alloc, context, ArgKind::Cmp, reader)?))
 }
@@ -122,8 +119,10 @@ pub(crate) fn any_number(
     context: &Context,
     reader: &mut Reader,
 ) -> Result<i64, ReadFault>
-    ensures eaten { IsEaten (context_of context.now) (Argument ArgKind.Num ∷ []) result reader.old reader.new }
-    ensures text { IfOk result (λ n. tokens_of reader.old ≡ Number (Some n) ∷ tokens_of reader.new) }
+    ensures eaten { IsEaten (context_of context.now) (Argument ArgKind.Num ∷ [])
+        result reader.old reader.new }
+    ensures text { IfOk result (λ n.
+        tokens_of reader.old ≡ Number (Some n) ∷ tokens_of reader.new) }
 {
     Ok(as_number(&argument_of(alloc, context, ArgKind::Num, reader)?))
 }

@@ -3,13 +3,19 @@ ghost use Rattle.std.specs.Prelude.{◌≡◌, [], ◌∷◌, ◌++◌, map, IfS
 ghost use Rattle.ff_net.specs.Tree.{tree_of};
 ghost use Rattle.ff_text.specs.Grammar.{IsNet};
 ghost use Rattle.ff_text.specs.Names.{net_named, AreNets};
-ghost use Rattle.ff_text.specs.Seen.{name_of, context_of};
+ghost use Rattle.ff_text.specs.Seen.{name_of, context_of, names_of};
 
-use crate::named_net::NamedNet;
 use ff_net::{Net, Version};
 use ff_ops::OpNode;
 use ff_rec::NoMemory;
 use std::alloc::Global;
+
+/// A word and the network that it stands for.
+#[derive(Drop)]
+pub(crate) struct NamedNet {
+    pub(crate) word: Vec<u8>,
+    pub(crate) net: Net<OpNode>,
+}
 
 /// The version of a text, and the names that stand for networks in it.
 #[derive(Drop)]
@@ -31,8 +37,9 @@ impl Context {
 
     /// The network of a word.
     pub(crate) fn net(&self, word: &[u8]) -> Option<&Net<OpNode>>
-        requires { AreNets (context_of self.now).names }
-        ensures found { MatchOption result (net_named (context_of self.now).names word.now ≡ None) (λ net. net_named (context_of self.now).names word.now ≡ Some (tree_of net.now)) }
+        requires { AreNets (names_of self.now) }
+        ensures found { MatchOption result (net_named (names_of self.now) word.now ≡ None)
+            (λ net. net_named (names_of self.now) word.now ≡ Some (tree_of net.now)) }
         ensures fits { IfSome result (λ net. IsNet (tree_of net.now) 15) }
     {
         net_of(&self.names, word)
@@ -41,8 +48,10 @@ impl Context {
     /// Lets a word stand for a network, where no earlier name has this word.
     pub(crate) fn name(&mut self, named: NamedNet) -> Result<(), NoMemory>
         ensures version { self.new.version ≡ self.old.version }
-        ensures names { OnOk result ((context_of self.new).names ≡ (context_of self.old).names ++ name_of named ∷ []) }
-        ensures nets { AreNets (context_of self.old).names → IsNet (tree_of named.net) 15 → OnOk result (AreNets (context_of self.new).names) }
+        ensures names { OnOk result
+            (names_of self.new ≡ names_of self.old ++ name_of named ∷ []) }
+        ensures nets { AreNets (names_of self.old) → IsNet (tree_of named.net) 15
+            → OnOk result (AreNets (names_of self.new)) }
     {
         self.names.push(named)?;
         Ok(())
@@ -52,7 +61,8 @@ impl Context {
 // The network of a word among these names.
 fn net_of<'a>(names: &'a [NamedNet], word: &[u8]) -> Option<&'a Net<OpNode>>
     requires { AreNets (map name_of names.now) }
-    ensures found { MatchOption result (net_named (map name_of names.now) word.now ≡ None) (λ net. net_named (map name_of names.now) word.now ≡ Some (tree_of net.now)) }
+    ensures found { MatchOption result (net_named (map name_of names.now) word.now ≡ None)
+        (λ net. net_named (map name_of names.now) word.now ≡ Some (tree_of net.now)) }
     ensures fits { IfSome result (λ net. IsNet (tree_of net.now) 15) }
 {
     for named in names {

@@ -9,7 +9,7 @@ use ff_ops::OpNode;
 use ff_rec::NoMemory;
 use std::alloc::Global;
 
-/// The same network, each of its nodes before its first record.
+/// A copy of a network, each of its nodes before its first record.
 #[cycle(copies)]
 #[tactic(auto, using(ff_net::specs::Tree::tree_forms))]
 pub(crate) fn copied(alloc: Global, net: &Net<OpNode>) -> Result<Net<OpNode>, NoMemory>

@@ -1,9 +1,11 @@
 // The network that a text describes.
 ghost use Rattle.std.specs.Prelude.{◌≡◌, ◌≤◌, ◌∷◌, [], IfOk, OnOk, IfErr, length};
 ghost use Rattle.ff_net.specs.Tree.{tree_of};
+ghost use Rattle.ff_text.specs.Copies.{opened};
 ghost use Rattle.ff_text.specs.Cutting.{tokens};
 ghost use Rattle.ff_text.specs.Faults.{text_of};
 ghost use Rattle.ff_text.specs.Grammar.{IsNet};
+ghost use Rattle.ff_text.specs.PrintLaw.{CanPrint};
 ghost use Rattle.ff_text.specs.Printing.{tokens_of};
 ghost use Rattle.ff_text.specs.Reading.{IsStopped, IsReadFault};
 ghost use Rattle.ff_text.specs.Seen.{context_of};
@@ -15,8 +17,8 @@ mod tests;
 
 use crate::context::Context;
 use crate::network::network;
-use crate::piece::refused;
-use crate::{ReadFault, Reader, TextKind, Token};
+use crate::misplaced::misplaced;
+use crate::{ReadFault, Reader, Token};
 use ff_net::{Net, Version};
 use ff_ops::OpNode;
 use std::alloc::Global;
@@ -39,14 +41,13 @@ pub fn read_net(alloc: Global, text: &[u8]) -> Result<Described, ReadFault>
     ensures version { IfOk result (λ d. d.version ≡ Version.One) }
     ensures net { IfOk result (λ d. IsNet (tree_of d.net) 15) }
     ensures text { IfOk result (λ d. tokens_of (tokens text.now) ≡ text_of (tree_of d.net)) }
+    ensures opening { IfOk result (λ d. opened (tree_of d.net) ≡ tree_of d.net) }
+    ensures printable { IfOk result (λ d. CanPrint (tree_of d.net)) }
     ensures within { OnOk result (length text.now ≤ 65536) }
     ensures fault { IfErr result (λ fault. IsReadFault text.now fault) }
 {
     if text.len() > MOST_BYTES {
-        return Err(ReadFault::Text {
-            at: MOST_BYTES,
-            kind: TextKind::TooLong,
-        });
+        return Err(ReadFault::TooLong);
     }
     let context = Context::new(alloc, Version::One);
     let mut reader = Reader::new(text);
@@ -60,12 +61,13 @@ pub fn read_net(alloc: Global, text: &[u8]) -> Result<Described, ReadFault>
 
 // The end of the text.
 fn finish(context: &Context, reader: &mut Reader) -> Result<(), ReadFault>
-    ensures stopped { IfErr result (λ fault. IsStopped (context_of context.now) (Finish ∷ []) fault reader.old) }
+    ensures stopped { IfErr result (λ fault.
+        IsStopped (context_of context.now) (Finish ∷ []) fault reader.old) }
     ensures text { OnOk result (tokens_of reader.old ≡ Stop ∷ []) }
 {
     let spot = reader.next();
     match spot.token {
         Token::Stop => Ok(()),
-        _ => Err(refused(context.version, spot)),
+        _ => Err(misplaced(context.version, spot)),
     }
 }

@@ -5,8 +5,6 @@ use std::alloc::AllocFailed;
 /// What is wrong with a text at its first fault.
 #[derive(Clone, Copy, Debug, PartialEq, Eq, Hash)]
 pub enum TextKind {
-    /// The text has more bytes than a text may have.
-    TooLong,
     /// No token begins at this byte.
     BadByte,
     /// Another token is awaited.
@@ -30,6 +28,8 @@ pub enum TextKind {
 pub enum ReadFault {
     /// The first fault, and the place of its first byte, from 0.
     Text { at: usize, kind: TextKind },
+    /// The text has more bytes than a text may have.
+    TooLong,
     NoMemory,
 }
 

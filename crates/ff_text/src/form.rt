@@ -24,6 +24,7 @@ pub(crate) const FORMS: [Form; 6] = [
 ];
 
 impl Form {
+    // The word in a text.
     fn word(self) -> &'static [u8]
         ensures { result.now ≡ form_word self }
     {

@@ -3,8 +3,8 @@ ghost use Rattle.ff_text.specs.CutLaws.{CutsFrontFirst, StopsAtItsEnd};
 ghost use Rattle.ff_text.specs.DepthLaw.{RoomIsDepth};
 ghost use Rattle.ff_text.specs.PrintedOperations.{PrintedOpIsRead, PrintedOpIsSpelling};
 ghost use Rattle.ff_text.specs.Printing.{PrintedIsCut};
-ghost use Rattle.ff_text.specs.PrintLaw.{PrintedNetsAreSpelled};
-ghost use Rattle.ff_text.specs.SpellingLaw.{SpellingIsOfOneNet};
+ghost use Rattle.ff_text.specs.PrintLaw.{PrintedNetsAreSpelled, PrintedNetsAreReadAgain};
+ghost use Rattle.ff_text.specs.SpellingLaw.{SpellingIsOfOneNet, SpelledWithoutNames};
 ghost use Rattle.ff_text.specs.WantLaws.{TextsAreTaken, StopsAreFaults};
 
 #[cfg(test)]
@@ -44,20 +44,27 @@ pub fn forms_round_one_another_are_the_depth()
     ensures { RoomIsDepth }
 {}
 
-/// No two networks are spelled by the same tokens, their nodes' states left aside: each node is one before its first
-/// record.
+/// No two networks are spelled by the same tokens, their nodes' states left aside: each node is one
+/// before its first record.
 pub fn networks_spelled_alike_are_the_same()
     ensures { SpellingIsOfOneNet }
 {}
 
-/// A printed network is cut into the tokens that spell it.
+/// Where no word stands for a network, what spells a network is its spelling alone.
+pub fn networks_without_names_are_spelled_one_way()
+    ensures { SpelledWithoutNames }
+{}
+
+/// A printed network is cut into the tokens that spell it, and read again.
 pub fn printed_networks_are_spelled()
-    ensures { PrintedNetsAreSpelled }
+    ensures spelled { PrintedNetsAreSpelled }
+    ensures read_again { PrintedNetsAreReadAgain }
 {
     printed_pieces_are_cut_into_them();
 }
 
-/// What is printed of an operation spells it alone, as a network, where no text among its arguments holds a quote.
+/// What is printed of an operation spells it alone, as a network, where no text among its arguments
+/// holds a quote.
 pub fn printed_operations_are_read()
     ensures tokens { PrintedOpIsSpelling }
     ensures read { PrintedOpIsRead }

@@ -3,8 +3,8 @@ ghost use Rattle.std.specs.Prelude.{◌≡◌, ◌<◌, ◌≤◌, length, slice
 ghost use Rattle.ff_text.specs.Cutting.{gap, piece, lexeme, digits, minus, quoted, sign, with_equal, is_next};
 ghost use Rattle.ff_text.specs.Seen.{seen, token_of};
 
-use crate::class::{Class, run_len};
-use crate::{Mark, Token};
+use crate::byte_class::{ByteClass, run_len};
+use crate::{TextMark, Token};
 use ff_rec::read_number;
 
 /// A token, or none for a gap; and how many bytes behind the first belong to it.
@@ -14,12 +14,14 @@ pub struct Lexeme<'a> {
     pub more: usize,
 }
 
+// A blank or a comment.
 fn gap<'a>(more: usize) -> Lexeme<'a>
     ensures { seen result ≡ gap more }
 {
     Lexeme { token: None, more }
 }
 
+// A token.
 fn piece(token: Token<'_>, more: usize) -> Lexeme<'_>
     ensures { seen result ≡ piece (token_of token.entry) more }
 {
@@ -38,9 +40,9 @@ pub fn first_lexeme(text: &[u8]) -> Lexeme<'_>
     let rest = &text[1..];
     match text[0] {
         b' ' | b'\t' | b'\n' | b'\r' => gap(0),
-        b'#' => gap(run_len(Class::InLine, rest)),
+        b'#' => gap(run_len(ByteClass::InLine, rest)),
         b'a'..=b'z' => {
-            let more = run_len(Class::InWord, rest);
+            let more = run_len(ByteClass::InWord, rest);
             piece(Token::Word(&text[..1 + more]), more)
         }
         b'0'..=b'9' => digits(text),
@@ -56,7 +58,7 @@ fn digits(text: &[u8]) -> Lexeme<'_>
     ensures value { seen result ≡ digits (slice_index text.now 0) (drop 1 text.now) }
     ensures within { result.more < length text.now }
 {
-    let more = run_len(Class::Digit, &text[1..]);
+    let more = run_len(ByteClass::Digit, &text[1..]);
     piece(Token::Number(read_number(&text[..1 + more])), more)
 }
 
@@ -78,7 +80,7 @@ fn quoted(rest: &[u8]) -> Lexeme<'_>
     ensures value { seen result ≡ quoted rest.now }
     ensures within { result.more ≤ length rest.now }
 {
-    let len = run_len(Class::InQuotes, rest);
+    let len = run_len(ByteClass::InQuotes, rest);
     if is_next(b'"', &rest[len..]) {
         piece(Token::Quoted(&rest[..len]), 1 + len)
     } else {
@@ -92,14 +94,14 @@ fn sign(first: u8, rest: &[u8]) -> Lexeme<'_>
     ensures within { result.more ≤ length rest.now }
 {
     match first {
-        b'(' => piece(Token::Sign(Mark::Open), 0),
-        b')' => piece(Token::Sign(Mark::Close), 0),
-        b',' => piece(Token::Sign(Mark::Comma), 0),
-        b';' => piece(Token::Sign(Mark::Semicolon), 0),
-        b'=' => piece(Token::Sign(Mark::Equal), 0),
-        b'<' => with_equal(Token::Sign(Mark::Less), Token::Sign(Mark::AtMost), rest),
-        b'>' => with_equal(Token::Sign(Mark::Greater), Token::Sign(Mark::AtLeast), rest),
-        b'!' => with_equal(Token::Bad, Token::Sign(Mark::Unequal), rest),
+        b'(' => piece(Token::Sign(TextMark::Open), 0),
+        b')' => piece(Token::Sign(TextMark::Close), 0),
+        b',' => piece(Token::Sign(TextMark::Comma), 0),
+        b';' => piece(Token::Sign(TextMark::Semicolon), 0),
+        b'=' => piece(Token::Sign(TextMark::Equal), 0),
+        b'<' => with_equal(Token::Sign(TextMark::Less), Token::Sign(TextMark::AtMost), rest),
+        b'>' => with_equal(Token::Sign(TextMark::Greater), Token::Sign(TextMark::AtLeast), rest),
+        b'!' => with_equal(Token::Bad, Token::Sign(TextMark::Unequal), rest),
         _ => piece(Token::Bad, 0),
     }
 }

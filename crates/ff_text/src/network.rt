@@ -5,7 +5,7 @@ ghost use Rattle.ff_text.specs.Grammar.{a_count, count_token, IsCount, IsNet};
 ghost use Rattle.ff_text.specs.Printing.{tokens_of};
 ghost use Rattle.ff_text.specs.Names.{net_named, AreNets};
 ghost use Rattle.ff_text.specs.Reading.{IsEaten, IsBegun};
-ghost use Rattle.ff_text.specs.Seen.{context_of};
+ghost use Rattle.ff_text.specs.Seen.{context_of, names_of};
 ghost use Rattle.ff_text.specs.Spelling.{Spells, InMarks, MarksBehind};
 ghost use Rattle.ff_text.specs.Tokens.{Word};
 ghost use Rattle.ff_text.specs.Wants.{Network, Argument, Opening, Closing, begin_use};
@@ -18,9 +18,10 @@ use crate::context::Context;
 use crate::copied::copied;
 use crate::depth::depth;
 use crate::form::Form;
-use crate::forms::formed;
+use crate::form_body::formed;
 use crate::operation::operation;
-use crate::piece::{closing, opening, refused};
+use crate::delimiters::{closing, opening};
+use crate::misplaced::{fault_at, misplaced};
 use crate::{ReadFault, Reader, TextKind, Token};
 use ff_net::Net;
 use ff_ops::{OpNode, Row};
@@ -34,18 +35,20 @@ pub(crate) fn network(
     room: usize,
     reader: &mut Reader,
 ) -> Result<Net<OpNode>, ReadFault>
-    requires { AreNets (context_of context.now).names }
-    ensures eaten { IsEaten (context_of context.now) (Network room ∷ []) result reader.old reader.new }
+    requires { AreNets (names_of context.now) }
+    ensures eaten { IsEaten (context_of context.now) (Network room ∷ [])
+        result reader.old reader.new }
     ensures net { IfOk result (λ net. IsNet (tree_of net) room) }
-    ensures text { IfOk result (λ net. Spells (context_of context.now).names (tree_of net) (tokens_of reader.old) (tokens_of reader.new)) }
+    ensures text { IfOk result (λ net.
+        Spells (names_of context.now) (tree_of net) (tokens_of reader.old) (tokens_of reader.new)) }
 {
     let spot = reader.next();
     let Token::Word(name) = spot.token else {
-        return Err(refused(context.version, spot));
+        return Err(misplaced(context.version, spot));
     };
     if let Some(form) = Form::named(name) {
         if room == 0 {
-            return Err(fault(spot.at, TextKind::Deep));
+            return Err(fault_at(spot.at, TextKind::Deep));
         }
         return formed(alloc, context, room - 1, form, reader);
     }
@@ -63,24 +66,19 @@ fn used(
     word: &[u8],
     at: usize,
 ) -> Result<Net<OpNode>, ReadFault>
-    requires { AreNets (context_of context.now).names }
-    ensures begun { IsBegun (begin_use (net_named (context_of context.now).names word.now) room) at result }
+    requires { AreNets (names_of context.now) }
+    ensures begun { IsBegun (begin_use (net_named (names_of context.now) word.now) room) at result }
     ensures net { IfOk result (λ net. IsNet (tree_of net) room) }
-    ensures named { IfOk result (λ net. net_named (context_of context.now).names word.now ≡ Some (tree_of net)) }
+    ensures named { IfOk result (λ net.
+        net_named (names_of context.now) word.now ≡ Some (tree_of net)) }
 {
     let Some(net) = context.net(word) else {
-        return Err(fault(at, TextKind::UnknownName));
+        return Err(fault_at(at, TextKind::UnknownName));
     };
     if depth(net) > room.saturating_add(1) {
-        return Err(fault(at, TextKind::Deep));
+        return Err(fault_at(at, TextKind::Deep));
     }
     Ok(copied(alloc, net)?)
-}
-
-fn fault(at: usize, kind: TextKind) -> ReadFault
-    ensures { result ≡ ReadFault.Text at kind }
-{
-    ReadFault::Text { at, kind }
 }
 
 /// Copies of a network.
@@ -91,11 +89,14 @@ pub(crate) fn side(
     room: usize,
     reader: &mut Reader,
 ) -> Result<(u32, Box<Net<OpNode>>), ReadFault>
-    requires { AreNets (context_of context.now).names }
-    ensures eaten { IsEaten (context_of context.now) (Argument a_count ∷ Opening ∷ Network room ∷ Closing ∷ []) result reader.old reader.new }
+    requires { AreNets (names_of context.now) }
+    ensures eaten { IsEaten (context_of context.now)
+        (Argument a_count ∷ Opening ∷ Network room ∷ Closing ∷ []) result reader.old reader.new }
     ensures count { IfOk result (λ side. IsCount side.0) }
     ensures net { IfOk result (λ side. IsNet (tree_of side.1.value) room) }
-    ensures text { IfOk result (λ side. MarksBehind (count_token side.0 ∷ []) (Spells (context_of context.now).names (tree_of side.1.value)) (tokens_of reader.old) (tokens_of reader.new)) }
+    ensures text { IfOk result (λ side.
+        MarksBehind (count_token side.0 ∷ []) (Spells (names_of context.now) (tree_of side.1.value))
+        (tokens_of reader.old) (tokens_of reader.new)) }
 {
     let copies = count(alloc, context, reader)?;
     let node = marked(alloc, context, room, reader)?;
@@ -110,10 +111,13 @@ pub(crate) fn marked(
     room: usize,
     reader: &mut Reader,
 ) -> Result<Box<Net<OpNode>>, ReadFault>
-    requires { AreNets (context_of context.now).names }
-    ensures eaten { IsEaten (context_of context.now) (Opening ∷ Network room ∷ Closing ∷ []) result reader.old reader.new }
+    requires { AreNets (names_of context.now) }
+    ensures eaten { IsEaten (context_of context.now) (Opening ∷ Network room ∷ Closing ∷ [])
+        result reader.old reader.new }
     ensures net { IfOk result (λ net. IsNet (tree_of net.value) room) }
-    ensures text { IfOk result (λ net. InMarks (Spells (context_of context.now).names (tree_of net.value)) (tokens_of reader.old) (tokens_of reader.new)) }
+    ensures text { IfOk result (λ net.
+        InMarks (Spells (names_of context.now) (tree_of net.value))
+        (tokens_of reader.old) (tokens_of reader.new)) }
 {
     opening(context, reader)?;
     let net = network(alloc, context, room, reader)?;

@@ -1,8 +1,7 @@
 // One operation of a network's text.
 ghost use Rattle.std.specs.Prelude.{◌≡◌, ◌∷◌, ◌++◌, map, IfOk};
 ghost use Rattle.ff_ops.specs.Table.{name_of, kinds_of};
-ghost use Rattle.ff_text.specs.Grammar.{AllFit};
-ghost use Rattle.ff_text.specs.OperationTokens.{argument_token, IsNew, spelling};
+ghost use Rattle.ff_text.specs.OperationTokens.{argument_token, IsNew, spelling, AllFit};
 ghost use Rattle.ff_text.specs.Printing.{tokens_of};
 ghost use Rattle.ff_text.specs.Reading.{IsEaten};
 ghost use Rattle.ff_text.specs.Seen.{context_of};
@@ -22,9 +21,11 @@ pub(crate) fn operation(
     row: Row,
     reader: &mut Reader,
 ) -> Result<OpNode, ReadFault>
-    ensures eaten { IsEaten (context_of context.now) (map (λ kind. Argument kind) (kinds_of row)) result reader.old reader.new }
+    ensures eaten { IsEaten (context_of context.now) (map (λ kind. Argument kind) (kinds_of row))
+        result reader.old reader.new }
     ensures fits { IfOk result (λ o. IsNew o) }
-    ensures text { IfOk result (λ o. Word (name_of row) ∷ tokens_of reader.old ≡ spelling o ++ tokens_of reader.new) }
+    ensures text { IfOk result (λ o.
+        Word (name_of row) ∷ tokens_of reader.old ≡ spelling o ++ tokens_of reader.new) }
 {
     let args = arguments_of(alloc, context, row.kinds(), reader)?;
     // The arguments fit, so that memory alone can be short.
@@ -41,9 +42,11 @@ fn arguments_of(
     kinds: &[ArgKind],
     reader: &mut Reader,
 ) -> Result<Vec<Arg>, ReadFault>
-    ensures eaten { IsEaten (context_of context.now) (map (λ kind. Argument kind) kinds.now) result reader.old reader.new }
+    ensures eaten { IsEaten (context_of context.now) (map (λ kind. Argument kind) kinds.now)
+        result reader.old reader.new }
     ensures fit { IfOk result (λ args. AllFit args.items kinds.now) }
-    ensures text { IfOk result (λ args. tokens_of reader.old ≡ map argument_token args.items ++ tokens_of reader.new) }
+    ensures text { IfOk result (λ args.
+        tokens_of reader.old ≡ map argument_token args.items ++ tokens_of reader.new) }
 {
     let mut args = Vec::new(alloc);
     for kind in kinds {

@@ -1,19 +1,19 @@
 // Networks, printed.
-ghost use Rattle.std.specs.Prelude.{◌≡◌, ◌++◌, ◌∷◌, OnOk, pos, codes};
-ghost use Rattle.ff_rec.specs.Number.{printed};
+ghost use Rattle.std.specs.Prelude.{◌≡◌, ◌++◌, OnOk, codes};
 ghost use Rattle.ff_net.specs.Tree.{tree_of, trees_of};
-ghost use Rattle.ff_text.specs.Grammar.{sched_word};
-ghost use Rattle.ff_text.specs.NetPrinting.{printed_side, printed_farm, printed_route, printed_middle, printed_test, printed_net, printed_parts, printed_described};
+ghost use Rattle.ff_text.specs.NetPrinting.{printed_farm, printed_net, printed_parts, printed_described};
 
+mod form_words;
 #[cfg(test)]
 mod tests;
 
 use crate::Described;
-use ff_net::{Net, Route, Sched, Test, Version};
-use ff_ops::{Arg, OpNode};
+use crate::print::form_words::{print_front, print_middle, print_side, print_test};
+use ff_net::{Net, Sched, Version};
+use ff_ops::OpNode;
 use ff_rec::NoMemory;
 
-/// Appends the printed form of a network. After a refusal some of it may have been appended.
+/// Appends the printed form of a network. Where memory runs out some of it may have been appended.
 #[cycle(printing)]
 #[tactic(auto, using(ff_net::specs::Tree::tree_forms))]
 pub fn print_net(net: &Net<OpNode>, into: &mut Vec<u8>) -> Result<(), NoMemory>
@@ -21,32 +21,18 @@ pub fn print_net(net: &Net<OpNode>, into: &mut Vec<u8>) -> Result<(), NoMemory>
 {
     match net {
         Net::Leaf(node) => node.op().print(into)?,
-        Net::Pipe(parts) => {
-            into.extend_from_slice(b"pipe(")?;
-            print_parts(parts, into)?;
-        }
-        Net::Comb(parts) => {
-            into.extend_from_slice(b"comb(")?;
-            print_parts(parts, into)?;
-        }
+        Net::Pipe(parts) => print_parts(b"pipe(", parts, into)?,
+        Net::Comb(parts) => print_parts(b"comb(", parts, into)?,
         Net::Farm {
             workers,
             sched,
             worker,
-        } => {
-            print_farm(b"farm", *workers, *sched, into)?;
-            print_net(worker, into)?;
-            into.push(b')')?;
-        }
+        } => print_farm(b"farm", *workers, *sched, worker, into)?,
         Net::OFarm {
             workers,
             sched,
             worker,
-        } => {
-            print_farm(b"ofarm", *workers, *sched, into)?;
-            print_net(worker, into)?;
-            into.push(b')')?;
-        }
+        } => print_farm(b"ofarm", *workers, *sched, worker, into)?,
         Net::A2a {
             left,
             left_node,
@@ -73,12 +59,26 @@ pub fn print_net(net: &Net<OpNode>, into: &mut Vec<u8>) -> Result<(), NoMemory>
     Ok(())
 }
 
-// The parts of a pipe or comb, and `)`.
+/// Appends the printed form of a network, behind `ffrun2 ` where the version is Two. Where memory runs
+/// out some of it may have been appended.
+pub fn print_described(described: &Described, into: &mut Vec<u8>) -> Result<(), NoMemory>
+    ensures { OnOk result (into.new.items ≡ into.old.items
+        ++ printed_described described.now.version (tree_of described.now.net)) }
+{
+    if let Version::Two = described.version {
+        into.extend_from_slice(b"ffrun2 ")?;
+    }
+    print_net(&described.net, into)
+}
+
+// A pipe or comb: its word with `(`, its parts, and `)`.
 #[cycle(printing)]
 #[tactic(auto, using(ff_net::specs::Tree::tree_forms))]
-fn print_parts(parts: &[Net<OpNode>], into: &mut Vec<u8>) -> Result<(), NoMemory>
-    ensures { OnOk result (into.new.items ≡ into.old.items ++ printed_parts (trees_of parts.now)) }
+fn print_parts(word: &[u8], parts: &[Net<OpNode>], into: &mut Vec<u8>) -> Result<(), NoMemory>
+    ensures { OnOk result
+        (into.new.items ≡ into.old.items ++ (word.now ++ printed_parts (trees_of parts.now))) }
 {
+    into.extend_from_slice(word)?;
     let mut first = true;
     for part in parts {
         if !first {
@@ -91,88 +91,22 @@ fn print_parts(parts: &[Net<OpNode>], into: &mut Vec<u8>) -> Result<(), NoMemory
     Ok(())
 }
 
-fn print_count(n: u32, into: &mut Vec<u8>) -> Result<(), NoMemory>
-    ensures { OnOk result (into.new.items ≡ into.old.items ++ printed (pos n)) }
+// A farm with its worker.
+#[cycle(printing)]
+#[tactic(auto, using(ff_net::specs::Tree::tree_forms))]
+fn print_farm(
+    word: &[u8],
+    workers: u32,
+    sched: Sched,
+    worker: &Net<OpNode>,
+    into: &mut Vec<u8>,
+) -> Result<(), NoMemory>
+    ensures { OnOk result (into.new.items ≡ into.old.items
+        ++ (printed_farm word.now workers sched
+        ++ (printed_net (tree_of worker.now) ++ codes ")"))) }
 {
-    Arg::Num(i64::from(n)).print(into)
-}
-
-fn print_side(word: &[u8], n: u32, into: &mut Vec<u8>) -> Result<(), NoMemory>
-    ensures { OnOk result (into.new.items ≡ into.old.items ++ printed_side word.now n) }
-{
-    into.extend_from_slice(word)?;
-    into.push(b' ')?;
-    print_count(n, into)?;
-    into.extend_from_slice(b" (")?;
+    print_front(word, workers, sched, into)?;
+    print_net(worker, into)?;
+    into.push(b')')?;
     Ok(())
-}
-
-fn print_farm(word: &[u8], n: u32, sched: Sched, into: &mut Vec<u8>) -> Result<(), NoMemory>
-    ensures { OnOk result (into.new.items ≡ into.old.items ++ printed_farm word.now n sched) }
-{
-    into.extend_from_slice(word)?;
-    into.push(b' ')?;
-    print_count(n, into)?;
-    into.push(b' ')?;
-    into.extend_from_slice(sched_bytes(sched))?;
-    into.extend_from_slice(b" (")?;
-    Ok(())
-}
-
-fn sched_bytes(sched: Sched) -> &'static [u8]
-    ensures { result.now ≡ sched_word sched }
-{
-    match sched {
-        Sched::Rr => b"rr",
-        Sched::Od => b"od",
-    }
-}
-
-fn print_route(route: Route, into: &mut Vec<u8>) -> Result<(), NoMemory>
-    ensures { OnOk result (into.new.items ≡ into.old.items ++ printed_route route) }
-{
-    match route {
-        Route::Rr => into.extend_from_slice(b"rr")?,
-        Route::Od => into.extend_from_slice(b"od")?,
-        Route::By(field) => {
-            into.extend_from_slice(b"by ")?;
-            print_count(field, into)?;
-        }
-    }
-    Ok(())
-}
-
-// What stands between the nodes of an all-to-all.
-fn print_middle(route: Route, n: u32, into: &mut Vec<u8>) -> Result<(), NoMemory>
-    ensures { OnOk result (into.new.items ≡ into.old.items ++ printed_middle route n) }
-{
-    into.extend_from_slice(b") ")?;
-    print_route(route, into)?;
-    into.push(b' ')?;
-    print_count(n, into)?;
-    into.extend_from_slice(b" (")?;
-    Ok(())
-}
-
-// What stands behind the worker of a wrap.
-fn print_test(test: &Test, into: &mut Vec<u8>) -> Result<(), NoMemory>
-    ensures { OnOk result (into.new.items ≡ into.old.items ++ printed_test test.now) }
-{
-    into.extend_from_slice(b") if ")?;
-    print_count(test.field, into)?;
-    into.push(b' ')?;
-    Arg::Cmp(test.cmp).print(into)?;
-    into.push(b' ')?;
-    Arg::Num(test.value).print(into)
-}
-
-/// Appends the printed form of a network, behind `ffrun2 ` where the version is Two. After a refusal some of it may have
-/// been appended.
-pub fn print_described(described: &Described, into: &mut Vec<u8>) -> Result<(), NoMemory>
-    ensures { OnOk result (into.new.items ≡ into.old.items ++ printed_described described.now.version (tree_of described.now.net)) }
-{
-    if let Version::Two = described.version {
-        into.extend_from_slice(b"ffrun2 ")?;
-    }
-    print_net(&described.net, into)
 }

@@ -8,7 +8,7 @@ ghost use Rattle.ff_text.specs.Tokens.{Stop, HasPlainText};
 mod tests;
 
 use crate::lexeme::first_lexeme;
-use crate::{Spot, Token};
+use crate::{PlacedToken, Token};
 use std::marker::Model;
 
 /// A text and how far it is read. Where all is read, `Stop` is ahead, at the length of the text.
@@ -20,10 +20,10 @@ pub struct Reader<'a> {
 
 impl<'a> Model for Reader<'a> {
     ghost use Rattle.std.specs.Prelude.{List, ◌≤◌, length};
-    ghost use Rattle.ff_text.specs.Tokens.{Spot};
+    ghost use Rattle.ff_text.specs.Tokens.{PlacedToken};
     ghost use Rattle.ff_text.specs.Cutting.{ahead};
 
-    ghost Value = { List Spot };
+    ghost Value = { List PlacedToken };
 
     ghost view = { λ r. ahead r.text.now r.at };
 
@@ -39,7 +39,7 @@ impl<'a> Reader<'a> {
     }
 
     /// The first token ahead. It stays ahead.
-    pub fn peek(&self) -> Spot<'a>
+    pub fn peek(&self) -> PlacedToken<'a>
         ensures first { self.now ≡ spot_of result ∷ drop 1 self.now }
         ensures plain { HasPlainText (token_of result.token) }
     {
@@ -47,7 +47,7 @@ impl<'a> Reader<'a> {
     }
 
     /// Takes the first token ahead, unless it is `Stop`, which stays.
-    pub fn next(&mut self) -> Spot<'a>
+    pub fn next(&mut self) -> PlacedToken<'a>
         ensures first { self.old ≡ spot_of result ∷ behind (token_of result.token) self.new }
         ensures stays { token_of result.token ≡ Stop → self.new ≡ self.old }
         ensures plain { HasPlainText (token_of result.token) }
@@ -59,9 +59,10 @@ impl<'a> Reader<'a> {
 }
 
 // The first token from the place `at` on, and the place behind it.
-fn next_spot(text: &[u8], mut at: usize) -> (Spot<'_>, usize)
+fn next_spot(text: &[u8], mut at: usize) -> (PlacedToken<'_>, usize)
     requires { at ≤ length text.now }
-    ensures first { ahead text.now at ≡ spot_of result.0 ∷ behind (token_of result.0.token) (ahead text.now result.1) }
+    ensures first { ahead text.now at
+        ≡ spot_of result.0 ∷ behind (token_of result.0.token) (ahead text.now result.1) }
     ensures stays { token_of result.0.token ≡ Stop → ahead text.now result.1 ≡ ahead text.now at }
     ensures within { result.1 ≤ length text.now }
     ensures plain { HasPlainText (token_of result.0.token) }
@@ -71,9 +72,9 @@ fn next_spot(text: &[u8], mut at: usize) -> (Spot<'_>, usize)
         let start = at;
         at += 1 + lexeme.more;
         if let Some(token) = lexeme.token {
-            return (Spot { token, at: start }, at);
+            return (PlacedToken { token, at: start }, at);
         }
     }
     let token = Token::Stop;
-    (Spot { token, at }, at)
+    (PlacedToken { token, at }, at)
 }

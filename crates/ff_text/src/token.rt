@@ -1,5 +1,5 @@
 // A token, and a token at its place.
-use crate::Mark;
+use crate::TextMark;
 
 /// What a text is cut into.
 #[derive(Debug, Clone, Copy, PartialEq, Eq)]
@@ -8,7 +8,7 @@ pub enum Token<'a> {
     Word(&'a [u8]),
     /// Without a value where it is outside 64 bits with a sign.
     Number(Option<i64>),
-    Sign(Mark),
+    Sign(TextMark),
     /// What stands between the quotes.
     Quoted(&'a [u8]),
     /// A byte at which no token begins.
@@ -19,7 +19,7 @@ pub enum Token<'a> {
 
 /// A token and the place of its first byte, from 0.
 #[derive(Debug, Clone, Copy, PartialEq, Eq)]
-pub struct Spot<'a> {
+pub struct PlacedToken<'a> {
     pub token: Token<'a>,
     pub at: usize,
 }

@@ -4,7 +4,7 @@ ghost use Rattle.ff_text.specs.OperationTokens.{comparison, argument};
 ghost use Rattle.ff_text.specs.Seen.{token_of};
 ghost use Rattle.ff_text.specs.Tokens.{HasPlainText};
 
-use crate::{Mark, Token};
+use crate::{TextMark, Token};
 use ff_node::Cmp;
 use ff_ops::Arg;
 use ff_rec::{Field, NoMemory};
@@ -24,16 +24,16 @@ pub(crate) fn argument(alloc: Global, token: Token) -> Result<Option<Arg>, NoMem
 }
 
 // The comparison that a mark is.
-fn comparison(mark: Mark) -> Option<Cmp>
+fn comparison(mark: TextMark) -> Option<Cmp>
     ensures { result ≡ comparison mark }
 {
     match mark {
-        Mark::Less => Some(Cmp::Lt),
-        Mark::AtMost => Some(Cmp::Le),
-        Mark::Equal => Some(Cmp::Eq),
-        Mark::Unequal => Some(Cmp::Ne),
-        Mark::AtLeast => Some(Cmp::Ge),
-        Mark::Greater => Some(Cmp::Gt),
+        TextMark::Less => Some(Cmp::Lt),
+        TextMark::AtMost => Some(Cmp::Le),
+        TextMark::Equal => Some(Cmp::Eq),
+        TextMark::Unequal => Some(Cmp::Ne),
+        TextMark::AtLeast => Some(Cmp::Ge),
+        TextMark::Greater => Some(Cmp::Gt),
         _ => None,
     }
 }

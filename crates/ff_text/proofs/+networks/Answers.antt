@@ -12,7 +12,7 @@ use Rattle.ff_text.specs.Grammar.{form_word}
 use Rattle.ff_text.specs.Printing.{tokens_of}
 use Rattle.ff_text.specs.Seen.{token_of, behind, context_of}
 use Rattle.ff_text.specs.Spelling.{Spells}
-use Rattle.ff_text.specs.Wants.{Want, Network, Parts, Opening, walk_in}
+use Rattle.ff_text.specs.Wants.{Want, Network, Parts, Opening, walk}
 use Rattle.ff_text.proofs.OpParts.{name_of-row_named}
 use Rattle.ff_text.proofs.Named.{form_word-form_named}
 use Rattle.ff_text.proofs.Parts.{left, ArePartsSoFar, ArePartsSoFar-push, SpellsSoFar, SpellsSoFar-push}
@@ -44,19 +44,19 @@ network::network-returns-in_ok-operation-in-Some-named-clause-text t c =
     ∙ ap (λ name. Word name ∷ tokens_of mid) (sym (name_of-row_named c.in-Word.name.now c.in-Some-named.row (sym c.in-Some-named.ensures)))
     ∙ c.in_ok-operation-in-Some-named.ensures.text)
 
-pub forms::parts-returns-in_err-more-clause-eaten : goal.forms::parts-returns-in_err-more-clause-eaten
-forms::parts-returns-in_err-more-clause-eaten t c =
+pub form_body::parts-returns-in_err-more-clause-eaten : goal.form_body::parts-returns-in_err-more-clause-eaten
+form_body::parts-returns-in_err-more-clause-eaten t c =
     let context = context_of c.args.context.now in
     let h = c.in_err-more.ensures.eaten c.args.room in
     let room = c.args.room in
-    let so = subst (λ more. (ws : List Want) → walk_in context c.opening.new.reader (Network room ∷ Parts room ∷ ws) ≡ walk_in context c.loop-more.reader (left more room ++ ws)) c.loop-more-test.true c.loop-more.invariant.eaten in
+    let so = subst (λ more. (ws : List Want) → walk context c.opening.new.reader (Network room ∷ Parts room ∷ ws) ≡ walk context c.loop-more.reader (left more room ++ ws)) c.loop-more-test.true c.loop-more.invariant.eaten in
     let p = err_from_is_err_and c.from_residual-in_err-more.result c.from_residual-in_err-more.ensures.1 in
     rw (p.1, p.2)
     (eaten-no_other (Vec (Net OpState) Global) context room c.in_err-more.field-0.0 (Opening ∷ Network room ∷ Parts room ∷ []) c.args.reader.now c.network.new.reader c.another.new.reader
     (λ ws. c.in_ok-opening.ensures.eaten (Network room ∷ Parts room ∷ ws) ∙ so ws ∙ c.in_ok-network.ensures.eaten (Parts room ∷ ws)) h)
 
-pub forms::parts-loop-more-preserved : goal.forms::parts-loop-more-preserved
-forms::parts-loop-more-preserved t c =
+pub form_body::parts-loop-more-preserved : goal.form_body::parts-loop-more-preserved
+form_body::parts-loop-more-preserved t c =
     let context = context_of c.args.context.now in
     let room = c.args.room in
     let net = c.in_ok-network.field-0 in
@@ -64,7 +64,7 @@ forms::parts-loop-more-preserved t c =
     let another = c.in_ok-more.more in
     let start = tokens_of c.opening.new.reader in
     let rest = tokens_of c.another.new.reader in
-    let so = subst (λ more. (ws : List Want) → walk_in context c.opening.new.reader (Network room ∷ Parts room ∷ ws) ≡ walk_in context c.loop-more.reader (left more room ++ ws)) c.loop-more-test.true c.loop-more.invariant.eaten in
+    let so = subst (λ more. (ws : List Want) → walk context c.opening.new.reader (Network room ∷ Parts room ∷ ws) ≡ walk context c.loop-more.reader (left more room ++ ws)) c.loop-more-test.true c.loop-more.invariant.eaten in
     let nets = subst (λ more. ArePartsSoFar more (trees_of done) room) c.loop-more-test.true c.loop-more.invariant.nets in
     let text = subst (λ more. SpellsSoFar context.names more (trees_of done) start (tokens_of c.loop-more.reader)) c.loop-more-test.true c.loop-more.invariant.text in
     let last = subst (λ ts. Spells context.names (tree_of net) (tokens_of c.loop-more.reader) ts) c.in_ok-more.ensures.text c.in_ok-network.ensures.text in
@@ -75,14 +75,14 @@ forms::parts-loop-more-preserved t c =
           (SpellsSoFar-push context.names net (tokens_of c.loop-more.reader) another done start rest text last);
     }
 
-pub forms::parts-loop-more-smaller : goal.forms::parts-loop-more-smaller
-forms::parts-loop-more-smaller t c =
+pub form_body::parts-loop-more-smaller : goal.form_body::parts-loop-more-smaller
+form_body::parts-loop-more-smaller t c =
     let names = (context_of c.args.context.now).names in
     let shorter = Spells-shorter names (tree_of c.in_ok-network.field-0) (tokens_of c.loop-more.reader) (tokens_of c.network.new.reader) c.in_ok-network.ensures.text in
     omega (arith, shorter, ap length c.in_ok-more.ensures.text)
 
-pub forms::formed-returns-in_ok-parts-in-Pipe-clause-text : goal.forms::formed-returns-in_ok-parts-in-Pipe-clause-text
-forms::formed-returns-in_ok-parts-in-Pipe-clause-text t c =
+pub form_body::formed-returns-in_ok-parts-in-Pipe-clause-text : goal.form_body::formed-returns-in_ok-parts-in-Pipe-clause-text
+form_body::formed-returns-in_ok-parts-in-Pipe-clause-text t c =
     let names = (context_of c.args.context.now).names in
     let old = tokens_of c.args.reader.now in
     let new = tokens_of c.parts.new.reader in
@@ -91,8 +91,8 @@ forms::formed-returns-in_ok-parts-in-Pipe-clause-text t c =
     subst (λ form. Spells names (tree_of (NetPipe parts)) (Word (form_word form) ∷ old) new) (sym c.in-Pipe.is)
     (subst (λ net. Spells names net (Word (codes "pipe") ∷ old) new) (sym (tree_of-Pipe parts)) made)
 
-pub forms::formed-returns-in_ok-parts-in-Comb-clause-text : goal.forms::formed-returns-in_ok-parts-in-Comb-clause-text
-forms::formed-returns-in_ok-parts-in-Comb-clause-text t c =
+pub form_body::formed-returns-in_ok-parts-in-Comb-clause-text : goal.form_body::formed-returns-in_ok-parts-in-Comb-clause-text
+form_body::formed-returns-in_ok-parts-in-Comb-clause-text t c =
     let names = (context_of c.args.context.now).names in
     let old = tokens_of c.args.reader.now in
     let new = tokens_of c.parts-in-Comb.new.reader in

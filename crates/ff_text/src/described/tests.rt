@@ -1,9 +1,7 @@
 // What no clause says: that networks are read while memory is there. The texts and places are counted by hand.
-use super::{Described, read_net};
+use super::read_net;
 use crate::{ReadFault, TextKind};
-use ff_net::{Net, Route, Sched, Version};
-use ff_node::Cmp;
-use ff_ops::ROWS;
+use ff_net::Version;
 use std::alloc::Global;
 use std::process::Abort;
 use std::test::Fail;
@@ -105,150 +103,32 @@ fn nested(alloc: Global, depth: usize) -> Result<Vec<u8>, Fail> {
 }
 
 #[test]
-fn sixteen_pipes(rt: HostRuntime) -> Result<(), Fail> {
+fn texts_at_their_limits(rt: HostRuntime) -> Result<(), Fail> {
     let alloc = rt.alloc();
     expect_read(&rt, alloc, &nested(alloc, 15)?);
     expect_fault(&rt, alloc, &nested(alloc, 16)?, 75, TextKind::Deep);
     expect_fault(&rt, alloc, &nested(alloc, 17)?, 75, TextKind::Deep);
-    Ok(())
-}
-
-#[test]
-fn hostile_texts(rt: HostRuntime) -> Result<(), Fail> {
-    let alloc = rt.alloc();
     let mut marks = Vec::new(alloc);
+    let mut blanks = Vec::from_slice(alloc, b"id")?;
     for _ in 0..65_536 {
         marks.push(b'(')?;
-    }
-    expect_fault(&rt, alloc, &marks, 0, TextKind::BadToken);
-    marks.push(b'(')?;
-    expect_fault(&rt, alloc, &marks, 65_536, TextKind::TooLong);
-    let mut blanks = Vec::from_slice(alloc, b"id")?;
-    for _ in 2..65_536 {
         blanks.push(b' ')?;
     }
-    expect_read(&rt, alloc, &blanks);
-    Ok(())
-}
-
-#[test]
-fn each_proper_prefix_is_a_fault(rt: HostRuntime) {
+    expect_fault(&rt, alloc, &marks, 0, TextKind::BadToken);
+    expect_read(&rt, alloc, &blanks[..65_536]);
+    for text in [blanks.as_slice(), &blanks[..65_537]] {
+        match read_net(alloc, text) {
+            Ok(_) => panic!(&rt; "it is read"),
+            Err(fault) => assert_eq!(&rt; fault, ReadFault::TooLong),
+        }
+    }
     let text = b"pipe(add 1 5, farm 2 rr (id))";
-    expect_read(&rt, rt.alloc(), text.as_slice());
+    expect_read(&rt, alloc, text.as_slice());
     for len in 0..text.len() {
-        match read_net(rt.alloc(), &text[..len]) {
+        match read_net(alloc, &text[..len]) {
             Err(ReadFault::Text { .. }) => {}
             _ => panic!(&rt; "{len} bytes are read"),
         }
-    }
-}
-
-// The network of a text.
-fn read(alloc: Global, text: &str) -> Result<Described, Fail> {
-    match read_net(alloc, text.as_bytes()) {
-        Ok(described) => Ok(described),
-        Err(_) => Err("not read".into()),
-    }
-}
-
-#[test]
-fn each_row_by_its_text(rt: HostRuntime) -> Result<(), Fail> {
-    let alloc = rt.alloc();
-    let texts = [
-        "id",
-        "add 1 -5",
-        "sub 64 7",
-        "mul 2 -9223372036854775808",
-        "div 1 -1",
-        "rem 1 9223372036854775807",
-        "neg 1",
-        "set 1 \"a;b\"",
-        "keep 2",
-        "drop 2",
-        "swap 1 64",
-        "copy 3",
-        "len 1",
-        "upper 1",
-        "lower 1",
-        "if 1 != 3",
-        "ifeq 1 \"\"",
-        "has 1 \"x y\"",
-        "words 1",
-        "dup 64",
-        "halve 1",
-        "plus 1 2",
-        "number",
-        "runsum 1",
-        "delta 1",
-        "take 1000000000",
-        "skip 0",
-        "uniq 1",
-        "tally",
-        "total 1",
-        "min 1",
-        "max 1",
-        "tallyby 1",
-        "totalby 1 2",
-    ];
-    assert_eq!(&rt; texts.len(), ROWS.len());
-    for (text, row) in texts.iter().zip(ROWS) {
-        let Net::Leaf(node) = read(alloc, text)?.net else {
-            return Err("no operation".into());
-        };
-        assert_eq!(&rt; node.op().row(), row);
-        let mut printed = Vec::new(alloc);
-        node.op().print(&mut printed)?;
-        assert_eq!(&rt; printed.as_slice(), text.as_bytes());
-    }
-    Ok(())
-}
-
-#[test]
-fn forms_have_their_numbers(rt: HostRuntime) -> Result<(), Fail> {
-    let alloc = rt.alloc();
-    match read(alloc, "farm 4294967295 od (id)")?.net {
-        Net::Farm { workers, sched, .. } => {
-            assert_eq!(&rt; workers, 4_294_967_295);
-            assert_eq!(&rt; sched, Sched::Od);
-        }
-        _ => panic!(&rt; "no farm"),
-    }
-    match read(alloc, "ofarm 3 rr (comb(id, neg 1))")?.net {
-        Net::OFarm { workers, sched, .. } => {
-            assert_eq!(&rt; workers, 3);
-            assert_eq!(&rt; sched, Sched::Rr);
-        }
-        _ => panic!(&rt; "no ordered farm"),
-    }
-    match read(alloc, "a2a 2 (id) by 7 3 (tallyby 1)")?.net {
-        Net::A2a {
-            left,
-            route,
-            right,
-            ..
-        } => {
-            assert_eq!(&rt; left, 2);
-            assert_eq!(&rt; route, Route::By(7));
-            assert_eq!(&rt; right, 3);
-        }
-        _ => panic!(&rt; "no all-to-all"),
-    }
-    match read(alloc, "wrap 5 (id) if 2 <= -9")?.net {
-        Net::Wrap { workers, test, .. } => {
-            assert_eq!(&rt; workers, 5);
-            assert_eq!(&rt; test.field, 2);
-            assert_eq!(&rt; test.cmp, Cmp::Le);
-            assert_eq!(&rt; test.value, -9);
-        }
-        _ => panic!(&rt; "no wrap"),
-    }
-    match read(alloc, "pipe(id, comb(id), id)")?.net {
-        Net::Pipe(parts) => assert_eq!(&rt; parts.len(), 3),
-        _ => panic!(&rt; "no pipe"),
-    }
-    match read(alloc, "comb(id, id)")?.net {
-        Net::Comb(parts) => assert_eq!(&rt; parts.len(), 2),
-        _ => panic!(&rt; "no comb"),
     }
     Ok(())
 }

@@ -1,11 +1,10 @@
 // What no clause says: that networks are read while memory is there. The texts and places are counted by hand.
-ghost use Rattle.std.specs.Prelude.{OnOk};
+ghost use Rattle.std.specs.Prelude.{OnOk, IfOk};
 ghost use Rattle.ff_text.specs.Names.{AreNets};
-ghost use Rattle.ff_text.specs.Seen.{context_of};
+ghost use Rattle.ff_text.specs.Seen.{names_of};
 
 use super::network;
-use crate::context::Context;
-use crate::named_net::NamedNet;
+use crate::context::{Context, NamedNet};
 use crate::{Described, ReadFault, Reader, TextKind, Token, print_net, read_net};
 use ff_net::Version;
 use std::alloc::Global;
@@ -14,8 +13,8 @@ use std::test::Fail;
 
 // Lets a word stand for the network of a text of version One.
 fn let_stand(alloc: Global, context: &mut Context, word: &[u8], text: &[u8]) -> Result<(), Fail>
-    requires { AreNets (context_of context.old).names }
-    ensures { OnOk result (AreNets (context_of context.new).names) }
+    requires { AreNets (names_of context.old) }
+    ensures { OnOk result (AreNets (names_of context.new)) }
 {
     let Described { version: _, net } = read_net(alloc, text)?;
     let word = word.to_vec(alloc)?;
@@ -31,7 +30,7 @@ fn expect_read(
     text: &[u8],
     printed: &[u8],
 ) -> Result<(), Fail>
-    requires { AreNets (context_of context.now).names }
+    requires { AreNets (names_of context.now) }
 {
     let mut reader = Reader::new(text);
     let net = network(alloc, context, room, &mut reader)?;
@@ -51,7 +50,7 @@ fn expect_fault(
     at: usize,
     kind: TextKind,
 )
-    requires { AreNets (context_of context.now).names }
+    requires { AreNets (names_of context.now) }
 {
     let mut reader = Reader::new(text);
     match network(alloc, context, room, &mut reader) {
@@ -60,103 +59,60 @@ fn expect_fault(
     }
 }
 
-#[test]
-fn uses_stand_for_their_networks(rt: HostRuntime) -> Result<(), Fail> {
-    let alloc = rt.alloc();
+// What words stand for in the texts below; forms and operations come before names.
+fn names(alloc: Global) -> Result<Context, Fail>
+    ensures { IfOk result (λ context. AreNets (names_of context)) }
+{
     let mut context = Context::new(alloc, Version::Two);
     let_stand(alloc, &mut context, b"w", b"add 1 1")?;
     let_stand(alloc, &mut context, b"deep", b"pipe(pipe(id))")?;
-    for (text, printed) in [
-        ("w", "add 1 1"),
-        ("deep", "pipe(pipe(id))"),
-        ("farm 2 rr (w)", "farm 2 rr (add 1 1)"),
-        ("comb(w, neg 1, w)", "comb(add 1 1, neg 1, add 1 1)"),
-        (
-            "a2a 1 (w) od 2 (deep)",
-            "a2a 1 (add 1 1) od 2 (pipe(pipe(id)))",
-        ),
-        ("wrap 2 (w) if 1 > 1", "wrap 2 (add 1 1) if 1 > 1"),
+    let_stand(alloc, &mut context, b"pipe", b"neg 1")?;
+    let_stand(alloc, &mut context, b"id", b"neg 2")?;
+    let_stand(alloc, &mut context, b"rr", b"neg 3")?;
+    let_stand(alloc, &mut context, b"x", b"if 1 > 5")?;
+    Ok(context)
+}
+
+#[test]
+fn words_stand_for_networks(rt: HostRuntime) -> Result<(), Fail> {
+    let alloc = rt.alloc();
+    let context = names(alloc)?;
+    for (room, text, printed) in [
+        (15, "w", "add 1 1"),
+        (15, "farm 2 rr (w)", "farm 2 rr (add 1 1)"),
+        (15, "comb(w, neg 1, w)", "comb(add 1 1, neg 1, add 1 1)"),
+        (15, "a2a 1 (w) od 2 (deep)", "a2a 1 (add 1 1) od 2 (pipe(pipe(id)))"),
+        (15, "wrap 2 (w) if 1 > 1", "wrap 2 (add 1 1) if 1 > 1"),
+        (15, "pipe(id)", "pipe(id)"),
+        (15, "farm 2 rr (rr)", "farm 2 rr (neg 3)"),
+        (2, "deep", "pipe(pipe(id))"),
+        (3, "pipe(id, deep)", "pipe(id, pipe(pipe(id)))"),
     ] {
-        expect_read(
-            &rt,
-            alloc,
-            &context,
-            15,
-            text.as_bytes(),
-            printed.as_bytes(),
-        )?;
+        expect_read(&rt, alloc, &context, room, text.as_bytes(), printed.as_bytes())?;
+    }
+    for (room, text, at, kind) in [
+        (1, "deep", 0, TextKind::Deep),
+        (2, "pipe(id, deep)", 9, TextKind::Deep),
+        (15, "v", 0, TextKind::UnknownName),
+        (15, "pipe(w; w)", 6, TextKind::BadToken),
+        (15, "; w", 0, TextKind::BadToken),
+        // The test of a wrap is no use, though an operation is spelled alike.
+        (15, "wrap 2 (id) x", 12, TextKind::BadToken),
+    ] {
+        expect_fault(&rt, alloc, &context, room, text.as_bytes(), at, kind);
     }
     Ok(())
 }
 
 #[test]
-fn uses_need_room(rt: HostRuntime) -> Result<(), Fail> {
-    let alloc = rt.alloc();
-    let mut context = Context::new(alloc, Version::Two);
-    let_stand(alloc, &mut context, b"deep", b"pipe(pipe(id))")?;
-    expect_read(&rt, alloc, &context, 2, b"deep", b"pipe(pipe(id))")?;
-    expect_fault(&rt, alloc, &context, 1, b"deep", 0, TextKind::Deep);
-    expect_read(
-        &rt,
-        alloc,
-        &context,
-        3,
-        b"pipe(id, deep)",
-        b"pipe(id, pipe(pipe(id)))",
-    )?;
-    expect_fault(
-        &rt,
-        alloc,
-        &context,
-        2,
-        b"pipe(id, deep)",
-        9,
-        TextKind::Deep,
-    );
-    Ok(())
-}
-
-#[test]
-fn forms_and_operations_come_before_names(rt: HostRuntime) -> Result<(), Fail> {
-    let alloc = rt.alloc();
-    let mut context = Context::new(alloc, Version::Two);
-    let_stand(alloc, &mut context, b"pipe", b"neg 1")?;
-    let_stand(alloc, &mut context, b"id", b"neg 2")?;
-    let_stand(alloc, &mut context, b"rr", b"neg 3")?;
-    expect_read(&rt, alloc, &context, 15, b"pipe(id)", b"pipe(id)")?;
-    expect_read(
-        &rt,
-        alloc,
-        &context,
-        15,
-        b"farm 2 rr (rr)",
-        b"farm 2 rr (neg 3)",
-    )?;
-    Ok(())
-}
-
-#[test]
-fn other_words_and_semicolons(rt: HostRuntime) -> Result<(), Fail> {
+fn no_word_stands_for_a_network(rt: HostRuntime) {
     let alloc = rt.alloc();
     let one = Context::new(alloc, Version::One);
-    expect_fault(&rt, alloc, &one, 15, b"w", 0, TextKind::UnknownName);
-    expect_fault(&rt, alloc, &one, 15, b"pipe(id; id)", 7, TextKind::BadByte);
-    expect_fault(&rt, alloc, &one, 15, b"; id", 0, TextKind::BadByte);
-    let mut two = Context::new(alloc, Version::Two);
-    let_stand(alloc, &mut two, b"w", b"add 1 1")?;
-    expect_fault(&rt, alloc, &two, 15, b"v", 0, TextKind::UnknownName);
-    expect_fault(&rt, alloc, &two, 15, b"pipe(w; w)", 6, TextKind::BadToken);
-    expect_fault(&rt, alloc, &two, 15, b"; w", 0, TextKind::BadToken);
-    // The test of a wrap is no use, though an operation is spelled alike.
-    let_stand(alloc, &mut two, b"x", b"if 1 > 5")?;
-    expect_fault(
-        &rt,
-        alloc,
-        &two,
-        15,
-        b"wrap 2 (id) x",
-        12,
-        TextKind::BadToken,
-    );
-    Ok(())
+    for (text, at, kind) in [
+        ("w", 0, TextKind::UnknownName),
+        ("pipe(id; id)", 7, TextKind::BadByte),
+        ("; id", 0, TextKind::BadByte),
+    ] {
+        expect_fault(&rt, alloc, &one, 15, text.as_bytes(), at, kind);
+    }
 }

@@ -32,11 +32,14 @@ fn check_prints(rt: HostRuntime) -> Result<(), Fail> {
         ("pipe( add 01 5 ,id)", "pipe(add 1 5, id)"),
         ("comb(id,neg 1 ,id )# end", "comb(id, neg 1, id)"),
         ("farm 04 rr(id)", "farm 4 rr (id)"),
+        ("farm 4294967295od(id)", "farm 4294967295 od (id)"),
+        ("ofarm 3 rr(comb(id,neg 1))", "ofarm 3 rr (comb(id, neg 1))"),
         ("ofarm 2 od ( id )", "ofarm 2 od (id)"),
         ("a2a 2(id)by 1 3(tally)", "a2a 2 (id) by 1 3 (tally)"),
         ("a2a 2 (id) rr 3 (id)", "a2a 2 (id) rr 3 (id)"),
         ("a2a 2 (id) od 3 (id)", "a2a 2 (id) od 3 (id)"),
         ("wrap 2(id)if 1>-1", "wrap 2 (id) if 1 > -1"),
+        ("wrap 5(id)if 2<=-9", "wrap 5 (id) if 2 <= -9"),
         (" \t\nadd  01 5 # last\n", "add 1 5"),
         ("if 1<=-3", "if 1 <= -3"),
         (
@@ -51,18 +54,12 @@ fn check_prints(rt: HostRuntime) -> Result<(), Fail> {
         expect_printed(&rt, alloc, text, want)?;
         expect_printed(&rt, alloc, want, want)?;
     }
-    Ok(())
-}
-
-#[test]
-fn upgrade(rt: HostRuntime) -> Result<(), Fail> {
-    let alloc = rt.alloc();
-    let described = Described {
+    let upgraded = Described {
         version: Version::Two,
         net: read(alloc, "pipe(id,id)")?.net,
     };
     let mut printed = Vec::new(alloc);
-    print_described(&described, &mut printed)?;
+    print_described(&upgraded, &mut printed)?;
     assert_eq!(&rt; printed.as_slice(), b"ffrun2 pipe(id, id)".as_slice());
     Ok(())
 }

@@ -4,11 +4,10 @@ use Rattle.std.proofs.lemmas.List.{drop_more, take_more, map-append}
 use Rattle.ff_ops.specs.declared.arg.Arg.{Arg}
 use Rattle.ff_ops.specs.declared.arg.ArgKind.{ArgKind}
 use Rattle.ff_ops.specs.declared.arg.ArgKind.TheVariants.{Field}
-use Rattle.ff_text.specs.Grammar.{fits, AllFit}
-use Rattle.ff_text.specs.OperationTokens.{argument_token}
+use Rattle.ff_text.specs.OperationTokens.{argument_token, fits, AllFit}
 use Rattle.ff_text.specs.Printing.{tokens_of}
 use Rattle.ff_text.specs.Seen.{context_of}
-use Rattle.ff_text.specs.Wants.{Argument, walk_in}
+use Rattle.ff_text.specs.Wants.{Argument, walk}
 use Rattle.ff_text.proofs.operation.arguments_of.Goals as goal
 
 AllFit-push : (args : List Arg) (kinds : List ArgKind) (a : Arg) (kind : ArgKind) → AllFit args kinds → IsTrue (fits a kind) → AllFit (args ++ a ∷ []) (kinds ++ kind ∷ [])
@@ -28,7 +27,7 @@ loop-kind-preserved c =
     record {
       eaten = λ ws.
           c.loop-kind.invariant.eaten ws
-          ∙ ap (λ ks. walk_in (context_of c.args.context.now) c.loop-kind.reader (map (λ k. Argument k) ks ++ ws)) (drop_more kinds i Field within)
+          ∙ ap (λ ks. walk (context_of c.args.context.now) c.loop-kind.reader (map (λ k. Argument k) ks ++ ws)) (drop_more kinds i Field within)
           ∙ h.eaten (map (λ k. Argument k) (drop (i + 1) kinds) ++ ws);
       fit = subst (λ args. AllFit args (take (i + 1) kinds)) (sym c.in_ok-push.ensures.items)
           (subst (λ ks. AllFit (c.loop-kind.args.items ++ a ∷ []) ks) (sym (take_more kinds i Field within))

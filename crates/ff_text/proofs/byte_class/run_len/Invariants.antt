@@ -1,7 +1,7 @@
 use Rattle.std.proofs.Common.{◌≡◌, ◌+◌, drop}
 use Rattle.std.specs.List.{prefix_len}
 use Rattle.ff_text.specs.Classes.{is_of}
-use Rattle.ff_text.proofs.class.run_len.Given as goal
+use Rattle.ff_text.proofs.byte_class.run_len.Given as goal
 
 -- all bytes so far are of the class
 abbrev pub invariant-loop-i : goal.invariant-loop-i

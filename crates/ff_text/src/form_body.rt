@@ -5,7 +5,7 @@ ghost use Rattle.ff_text.specs.Grammar.{form_word, a_count, count_token, sched_w
 ghost use Rattle.ff_text.specs.Printing.{tokens_of};
 ghost use Rattle.ff_text.specs.Names.{AreNets};
 ghost use Rattle.ff_text.specs.Reading.{IsEaten};
-ghost use Rattle.ff_text.specs.Seen.{context_of};
+ghost use Rattle.ff_text.specs.Seen.{context_of, names_of};
 ghost use Rattle.ff_text.specs.Spelling.{Spells, SpellsParts, InMarks, MarksBehind};
 ghost use Rattle.ff_text.specs.Tokens.{Word};
 ghost use Rattle.ff_text.specs.Wants.{Network, Parts, Argument, Schedule, Opening, Closing, rest_of};
@@ -14,8 +14,9 @@ use crate::argument::count;
 use crate::context::Context;
 use crate::form::Form;
 use crate::network::{marked, network, side};
-use crate::piece::{another, opening};
-use crate::word::{route, sched, tested};
+use crate::delimiters::{another, opening};
+use crate::schedule::{route, sched};
+use crate::wrap_test::tested;
 use crate::{ReadFault, Reader};
 use ff_net::{Net, Sched};
 use ff_ops::OpNode;
@@ -31,10 +32,13 @@ pub(crate) fn formed(
     form: Form,
     reader: &mut Reader,
 ) -> Result<Net<OpNode>, ReadFault>
-    requires { AreNets (context_of context.now).names }
-    ensures eaten { IsEaten (context_of context.now) (rest_of room form) result reader.old reader.new }
+    requires { AreNets (names_of context.now) }
+    ensures eaten { IsEaten (context_of context.now) (rest_of room form)
+        result reader.old reader.new }
     ensures net { IfOk result (λ net. IsNet (tree_of net) (suc room)) }
-    ensures text { IfOk result (λ net. Spells (context_of context.now).names (tree_of net) (Word (form_word form) ∷ tokens_of reader.old) (tokens_of reader.new)) }
+    ensures text { IfOk result (λ net.
+        Spells (names_of context.now) (tree_of net)
+        (Word (form_word form) ∷ tokens_of reader.old) (tokens_of reader.new)) }
 {
     match form {
         Form::Pipe => Ok(Net::Pipe(parts(alloc, context, room, reader)?)),
@@ -76,10 +80,13 @@ fn parts(
     room: usize,
     reader: &mut Reader,
 ) -> Result<Vec<Net<OpNode>>, ReadFault>
-    requires { AreNets (context_of context.now).names }
-    ensures eaten { IsEaten (context_of context.now) (Opening ∷ Network room ∷ Parts room ∷ []) result reader.old reader.new }
+    requires { AreNets (names_of context.now) }
+    ensures eaten { IsEaten (context_of context.now) (Opening ∷ Network room ∷ Parts room ∷ [])
+        result reader.old reader.new }
     ensures nets { IfOk result (λ parts. AreParts (trees_of parts.items) room) }
-    ensures text { IfOk result (λ parts. InMarks (SpellsParts (context_of context.now).names (trees_of parts.items)) (tokens_of reader.old) (tokens_of reader.new)) }
+    ensures text { IfOk result (λ parts.
+        InMarks (SpellsParts (names_of context.now) (trees_of parts.items))
+        (tokens_of reader.old) (tokens_of reader.new)) }
 {
     opening(context, reader)?;
     let mut parts = Vec::new(alloc);
@@ -99,11 +106,15 @@ fn farm(
     room: usize,
     reader: &mut Reader,
 ) -> Result<(u32, Sched, Box<Net<OpNode>>), ReadFault>
-    requires { AreNets (context_of context.now).names }
-    ensures eaten { IsEaten (context_of context.now) (Argument a_count ∷ Schedule ∷ Opening ∷ Network room ∷ Closing ∷ []) result reader.old reader.new }
+    requires { AreNets (names_of context.now) }
+    ensures eaten { IsEaten (context_of context.now)
+        (Argument a_count ∷ Schedule ∷ Opening ∷ Network room ∷ Closing ∷ []) result reader.old reader.new }
     ensures count { IfOk result (λ farm. IsCount farm.0) }
     ensures net { IfOk result (λ farm. IsNet (tree_of farm.2.value) room) }
-    ensures text { IfOk result (λ farm. MarksBehind (count_token farm.0 ∷ Word (sched_word farm.1) ∷ []) (Spells (context_of context.now).names (tree_of farm.2.value)) (tokens_of reader.old) (tokens_of reader.new)) }
+    ensures text { IfOk result (λ farm.
+        MarksBehind (count_token farm.0 ∷ Word (sched_word farm.1) ∷ [])
+        (Spells (names_of context.now) (tree_of farm.2.value))
+        (tokens_of reader.old) (tokens_of reader.new)) }
 {
     let workers = count(alloc, context, reader)?;
     let sched = sched(context, reader)?;
@@ -119,10 +130,13 @@ fn a2a(
     room: usize,
     reader: &mut Reader,
 ) -> Result<Net<OpNode>, ReadFault>
-    requires { AreNets (context_of context.now).names }
-    ensures eaten { IsEaten (context_of context.now) (rest_of room Form.A2a) result reader.old reader.new }
+    requires { AreNets (names_of context.now) }
+    ensures eaten { IsEaten (context_of context.now) (rest_of room Form.A2a)
+        result reader.old reader.new }
     ensures net { IfOk result (λ net. IsNet (tree_of net) (suc room)) }
-    ensures text { IfOk result (λ net. Spells (context_of context.now).names (tree_of net) (Word (form_word Form.A2a) ∷ tokens_of reader.old) (tokens_of reader.new)) }
+    ensures text { IfOk result (λ net.
+        Spells (names_of context.now) (tree_of net)
+        (Word (form_word Form.A2a) ∷ tokens_of reader.old) (tokens_of reader.new)) }
 {
     let (left, left_node) = side(alloc, context, room, reader)?;
     let route = route(alloc, context, reader)?;

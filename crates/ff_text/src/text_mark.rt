@@ -2,7 +2,7 @@
 
 /// `(`, `)`, `,`, `<`, `<=`, `=`, `!=`, `>=`, `>` and `;`.
 #[derive(Debug, Clone, Copy, PartialEq, Eq)]
-pub enum Mark {
+pub enum TextMark {
     Open,
     Close,
     Comma,
