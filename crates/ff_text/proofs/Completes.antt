@@ -1,6 +1,6 @@
 -- What spells a network is taken where the network is wanted.
 use Rattle.std.proofs.Common.{◌≡◌, ℕ, zero, suc, Bool, true, false, ◌&&◌, cond, List, [], ◌∷◌, ◌++◌, map, codes, None, Some, Ok, Err, pos, refl, ap, ◌∙◌, inl, inr}
-use Rattle.ff_ops.specs.Arguments.{suits, is_within}
+use Rattle.ff_ops.specs.Arguments.{suits, is_within, fits, AllFit}
 use Rattle.ff_ops.specs.Operation.{OpState}
 use Rattle.ff_ops.specs.Table.{name_of, kinds_of, row_named}
 use Rattle.ff_ops.specs.declared.arg.Arg.{Arg}
@@ -16,13 +16,13 @@ use Rattle.ff_net.specs.declared.net.Version.{Version}
 use Rattle.ff_text.specs.declared.fault.TextKind.TheVariants.{Range}
 use Rattle.ff_text.specs.declared.text_mark.TextMark.TheVariants.{Close}
 use Rattle.ff_text.specs.Tokens.{Token, Word, Sign}
-use Rattle.ff_text.specs.OperationTokens.{argument_token, fits, AllFit}
+use Rattle.ff_text.specs.OperationTokens.{argument_token}
 use Rattle.ff_text.specs.Grammar.{route_spelling, sched_word, count_token, a_count, IsCount, IsRoute, IsNet, AreParts, AreBehind}
 use Rattle.ff_text.specs.Names.{Context, net_named}
 use Rattle.ff_text.specs.Spelling.{Front, IsUse, InMarks, Spells, SpellsParts, SpellsBehind}
 use Rattle.ff_text.specs.Wants.{Want, Network, Parts, Argument, Schedule, Routing, Opening, Closing, Condition, misplaced, begin_word, take_argument, expand, pushed, then_run, run}
 use Rattle.ff_text.proofs.OperationTokens.{argument-argument_token}
-use Rattle.ff_text.proofs.OpParts.{row_named-name_of}
+use Rattle.ff_ops.proofs.RowLaws.{row_named-name_of}
 use Rattle.ff_text.proofs.Named.{form_named-row_named}
 use Rattle.ff_text.proofs.Depths.{room_is_depth}
 use Rattle.ff_text.proofs.Uses.{expand-use, begin_use-room}

@@ -8,7 +8,7 @@ use Rattle.ff_text.specs.declared.form.Form.{Form}
 use Rattle.ff_text.specs.declared.form.Form.TheVariants.{Pipe, Comb, Farm, OFarm, A2a, Wrap}
 use Rattle.ff_text.specs.declared.form.TheConstants.{FORMS}
 use Rattle.ff_text.specs.Grammar.{form_word, form_named}
-use Rattle.ff_text.proofs.OpParts.{find-test}
+use Rattle.ff_ops.proofs.RowLaws.{find-test}
 
 -- the form with a word has this word
 pub form_word-form_named : (name : List ℕ) (form : Form) → form_named name ≡ Some form → form_word form ≡ name

@@ -17,11 +17,12 @@ use Rattle.ff_text.specs.declared.form.Form.{Form}
 use Rattle.ff_text.specs.declared.form.Form.TheVariants.{Pipe as PipeForm, Comb as CombForm, Farm as FarmForm, OFarm as OFarmForm, A2a as A2aForm, Wrap as WrapForm}
 use Rattle.ff_text.specs.declared.text_mark.TextMark.TheVariants.{Open, Close}
 use Rattle.ff_text.specs.Tokens.{Token, Word, Sign}
-use Rattle.ff_text.specs.OperationTokens.{argument_token, argument, IsNew, spelling as operation_spelling, AllFit}
+use Rattle.ff_ops.specs.Arguments.{AllFit}
+use Rattle.ff_text.specs.OperationTokens.{argument_token, argument, IsNew, spelling as operation_spelling}
 use Rattle.ff_text.specs.Grammar.{form_named, spelling, parts_spelling, behind_spelling, route_spelling, sched_word, count_token, IsNet, AreParts, AreBehind}
 use Rattle.ff_text.specs.SpellingLaw.{SpellingIsOfOneNet}
 use Rattle.ff_text.proofs.Named.{form_named-row_named}
-use Rattle.ff_text.proofs.OpParts.{row_named-name_of}
+use Rattle.ff_ops.proofs.RowLaws.{row_named-name_of}
 use Rattle.ff_text.proofs.OperationTokens.{argument-argument_token}
 
 -- arguments of the same kinds

@@ -1,4 +1,4 @@
--- A network whose nodes are before their first records is the same as its copy.
+-- A network that a text can spell is in its opening states.
 use Rattle.std.proofs.Common.{◌≡◌, ℕ, zero, suc, List, [], ◌∷◌, ◌++◌, refl, sym, ap, ◌∙◌}
 use Rattle.ff_ops.specs.Families.{family_of, family_opening}
 use Rattle.ff_ops.specs.Operation.{OpState, operation, op_node}
@@ -7,24 +7,18 @@ use Rattle.ff_ops.specs.declared.row.Row.{Row}
 use Rattle.ff_ops.specs.declared.row.Row.TheVariants.{Id}
 use Rattle.ff_net.specs.Tree.{Tree, Trees, Leaf, Pipe, Comb, Farm, OFarm, A2a, Wrap, none, more, tree_of, trees_of}
 use Rattle.ff_net.specs.declared.net.Net.{Net}
-use Rattle.ff_text.specs.Copies.{opened, all_opened}
+use Rattle.ff_net.specs.Nodes.{opened, all_opened}
+use Rattle.ff_ops.proofs.Openings.{opening-operation}
 use Rattle.ff_text.specs.Grammar.{IsNet, AreParts, AreBehind}
 use Rattle.ff_text.specs.OperationTokens.{IsNew}
 
--- what is read is before its first record
-family_opening-family_of : (row : Row) (args : List Arg) → family_opening (family_of row args) ≡ family_of row args
-family_opening-family_of Id args = refl
-family_opening-family_of row args = refl
-
-opening-operation : (row : Row) (args : List Arg) → op_node.opening (operation row args) ≡ operation row args
-opening-operation row args = ap (λ family. record (operation row args) { family = family }) (family_opening-family_of row args)
-
+-- an operation that fits
 opening-new : (o : OpState) → IsNew o → op_node.opening o ≡ o
 opening-new o h =
     ap op_node.opening h.0 ∙ opening-operation o.row o.args ∙ sym h.0
 
 mutual
-  pub opened-net : (t : Tree OpState) (room : ℕ) → IsNet t room → opened t ≡ t
+  pub opened-net : (t : Tree OpState) (room : ℕ) → IsNet t room → opened op_node t ≡ t
   opened-net (Leaf o) room h = ap Leaf (opening-new o h)
   opened-net (Pipe ts) zero h = absurd h
   opened-net (Pipe ts) (suc room) h = ap Pipe (all_opened-parts ts room h)
@@ -35,25 +29,14 @@ mutual
   opened-net (OFarm n s w) zero h = absurd h
   opened-net (OFarm n s w) (suc room) h = ap (λ t. OFarm n s t) (opened-net w room h.1)
   opened-net (A2a n l r m t) zero h = absurd h
-  opened-net (A2a n l r m t) (suc room) h = ap (λ u. A2a n u r m (opened t)) (opened-net l room h.1) ∙ ap (λ u. A2a n l r m u) (opened-net t room h.4)
+  opened-net (A2a n l r m t) (suc room) h = ap (λ u. A2a n u r m (opened op_node t)) (opened-net l room h.1) ∙ ap (λ u. A2a n l r m u) (opened-net t room h.4)
   opened-net (Wrap n w test) zero h = absurd h
   opened-net (Wrap n w test) (suc room) h = ap (λ t. Wrap n t test) (opened-net w room h.1)
 
-  all_opened-parts : (ts : Trees OpState) (room : ℕ) → AreParts ts room → all_opened ts ≡ ts
+  all_opened-parts : (ts : Trees OpState) (room : ℕ) → AreParts ts room → all_opened op_node ts ≡ ts
   all_opened-parts none room h = absurd h
-  all_opened-parts (more t ts) room h = ap (λ u. more u (all_opened ts)) (opened-net t room h.0) ∙ ap (λ us. more t us) (all_opened-behind ts room h.1)
+  all_opened-parts (more t ts) room h = ap (λ u. more u (all_opened op_node ts)) (opened-net t room h.0) ∙ ap (λ us. more t us) (all_opened-behind ts room h.1)
 
-  all_opened-behind : (ts : Trees OpState) (room : ℕ) → AreBehind ts room → all_opened ts ≡ ts
+  all_opened-behind : (ts : Trees OpState) (room : ℕ) → AreBehind ts room → all_opened op_node ts ≡ ts
   all_opened-behind none room h = refl
-  all_opened-behind (more t ts) room h = ap (λ u. more u (all_opened ts)) (opened-net t room h.0) ∙ ap (λ us. more t us) (all_opened-behind ts room h.1)
-
--- one copy more
-pub all_opened-push : (ns cs : List (Net OpState)) (n c : Net OpState) → trees_of cs ≡ all_opened (trees_of ns) → tree_of c ≡ opened (tree_of n)
-    → trees_of (cs ++ c ∷ []) ≡ all_opened (trees_of (ns ++ n ∷ []))
-all_opened-push [] [] n c h k = ap (λ t. more t none) k
-all_opened-push [] (d ∷ cs) n c h k = absurd (cc)
-all_opened-push (m ∷ ns) [] n c h k = absurd (cc)
-all_opened-push (m ∷ ns) (d ∷ cs) n c h k =
-    let first : tree_of d ≡ opened (tree_of m) = cc in
-    let others : trees_of cs ≡ all_opened (trees_of ns) = cc in
-    ap (λ t. more t (trees_of (cs ++ c ∷ []))) first ∙ ap (λ ts. more (opened (tree_of m)) ts) (all_opened-push ns cs n c others k)
+  all_opened-behind (more t ts) room h = ap (λ u. more u (all_opened op_node ts)) (opened-net t room h.0) ∙ ap (λ us. more t us) (all_opened-behind ts room h.1)

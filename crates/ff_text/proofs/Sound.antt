@@ -3,7 +3,7 @@ use Rattle.std.proofs.Common.{◌≡◌, ℕ, zero, suc, Bool, true, false, ◌&
 use Rattle.std.specs.Cmp.Lexicographic.{bytes_decides}
 use Rattle.ff_rec.specs.Fields.{same_bytes}
 use Rattle.ff_rec.specs.declared.cmp.Cmp.{Cmp}
-use Rattle.ff_ops.specs.Arguments.{suits, is_within, is_numeric}
+use Rattle.ff_ops.specs.Arguments.{suits, is_within, is_numeric, fits, AllFit}
 use Rattle.ff_ops.specs.Operation.{OpState, operation}
 use Rattle.ff_ops.specs.Table.{name_of, kinds_of, row_named}
 use Rattle.ff_ops.specs.declared.row.Row.{Row}
@@ -23,14 +23,14 @@ use Rattle.ff_text.specs.declared.form.Form.{Form}
 use Rattle.ff_text.specs.declared.form.Form.TheVariants.{Pipe as PipeForm, Comb as CombForm, Farm as FarmForm, OFarm as OFarmForm, A2a as A2aForm, Wrap as WrapForm}
 use Rattle.ff_text.specs.declared.text_mark.TextMark.TheVariants.{Open, Close, Comma}
 use Rattle.ff_text.specs.Tokens.{Token, Word, Number, Sign, Stop}
-use Rattle.ff_text.specs.OperationTokens.{mark_of, argument_token, argument, fits, AllFit}
+use Rattle.ff_text.specs.OperationTokens.{mark_of, argument_token, argument}
 use Rattle.ff_text.specs.Grammar.{form_word, form_named, route_spelling, sched_word, count_token, a_count, IsCount, IsRoute, IsNet, AreParts, AreBehind}
 use Rattle.ff_net.specs.declared.net.Version.{Version}
 use Rattle.ff_text.specs.Names.{Name, Context, net_named, AreNets}
 use Rattle.ff_text.specs.Spelling.{InMarks, MarksBehind, Spells, SpellsParts, SpellsBehind}
 use Rattle.ff_text.specs.Wants.{Want, Network, Parts, Argument, Schedule, Routing, Opening, Closing, Condition, Finish, rest_of, misplaced, begin_word, begin_use, take_argument, is_sched, expand, pushed, then_run, run, start}
 use Rattle.ff_text.proofs.OperationTokens.{argument_token-argument}
-use Rattle.ff_text.proofs.OpParts.{name_of-row_named}
+use Rattle.ff_ops.proofs.RowLaws.{name_of-row_named}
 use Rattle.ff_text.proofs.Named.{form_word-form_named}
 use Rattle.ff_text.proofs.Uses.{IsNet-room, IsNet-named, begin_use-taken, Spells-use}
 

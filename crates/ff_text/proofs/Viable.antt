@@ -4,7 +4,7 @@ use Rattle.std.specs.List.{AllByRecursion, list_all}
 use Rattle.std.proofs.lemmas.Bool.{and_parts}
 use Rattle.ff_rec.specs.Fields.{same_bytes}
 use Rattle.ff_rec.specs.declared.cmp.Cmp.TheVariants.{Eq}
-use Rattle.ff_ops.specs.Arguments.{suits, is_within, is_numeric}
+use Rattle.ff_ops.specs.Arguments.{suits, is_within, is_numeric, fits}
 use Rattle.ff_ops.specs.Table.{kinds_of, row_named}
 use Rattle.ff_ops.specs.declared.row.Row.{Row}
 use Rattle.ff_ops.specs.declared.row.Row.TheVariants.{Id}
@@ -18,7 +18,7 @@ use Rattle.ff_text.specs.declared.form.Form.{Form}
 use Rattle.ff_text.specs.declared.form.Form.TheVariants.{Pipe as PipeForm, Comb as CombForm, Farm as FarmForm, OFarm as OFarmForm, A2a as A2aForm, Wrap as WrapForm}
 use Rattle.ff_text.specs.declared.text_mark.TextMark.TheVariants.{Open, Close, Comma}
 use Rattle.ff_text.specs.Tokens.{Token, Word, Number, Sign, Stop}
-use Rattle.ff_text.specs.OperationTokens.{argument_token, argument, fits}
+use Rattle.ff_text.specs.OperationTokens.{argument_token, argument}
 use Rattle.ff_text.specs.Grammar.{form_named, a_count}
 use Rattle.ff_text.specs.Faults.{text_of, Begins}
 use Rattle.ff_net.specs.declared.net.Version.TheVariants.{One}

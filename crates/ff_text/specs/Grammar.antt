@@ -16,7 +16,8 @@ use Rattle.ff_text.specs.declared.form.Form.TheVariants.{Pipe as PipeForm, Comb 
 use Rattle.ff_text.specs.declared.form.TheConstants.{FORMS}
 use Rattle.ff_text.specs.declared.text_mark.TextMark.TheVariants.{Open, Close, Comma}
 use Rattle.ff_text.specs.Tokens.{Token, Word, Number, Sign}
-use Rattle.ff_text.specs.OperationTokens.{mark_of, fits, IsNew, spelling as operation_spelling}
+use Rattle.ff_ops.specs.Arguments.{fits}
+use Rattle.ff_text.specs.OperationTokens.{mark_of, IsNew, spelling as operation_spelling}
 
 -- the word of a form
 abbrev pub form_word : Form → List ℕ

@@ -11,7 +11,6 @@ pub mod Names
 pub mod Wants
 pub mod Spelling
 pub mod SpellingLaw
-pub mod Copies
 pub mod WantLaws
 pub mod Reading
 pub mod NetPrinting

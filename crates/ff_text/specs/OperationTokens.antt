@@ -1,12 +1,11 @@
 -- Operations and their arguments as tokens, and the arguments that tokens are.
-use Rattle.std.specs.Prelude.{◌≡◌, Bool, ◌&&◌, IsTrue, List, [], ◌∷◌, map, Option, None, Some}
+use Rattle.std.specs.Prelude.{◌≡◌, List, ◌∷◌, map, Option, None, Some}
 use Rattle.std.specs.Option.{option_map}
 use Rattle.ff_rec.specs.declared.cmp.Cmp.{Cmp}
 use Rattle.ff_rec.specs.declared.cmp.Cmp.TheVariants.{Lt, Le, Eq, Ne, Ge, Gt}
 use Rattle.ff_ops.specs.Operation.{OpState, operation}
 use Rattle.ff_ops.specs.Table.{name_of, kinds_of}
-use Rattle.ff_ops.specs.Arguments.{suits, is_within}
-use Rattle.ff_ops.specs.declared.arg.ArgKind.{ArgKind}
+use Rattle.ff_ops.specs.Arguments.{AllFit}
 use Rattle.ff_ops.specs.declared.arg.Arg.{Arg}
 use Rattle.ff_ops.specs.declared.arg.Arg.TheVariants.{Num, Cmp as Compared, Text}
 use Rattle.ff_text.specs.declared.text_mark.TextMark.{TextMark}
@@ -31,17 +30,6 @@ argument_token (Text bytes) = Quoted bytes
 -- an operation as tokens: its name, and its arguments
 abbrev pub spelling : OpState → List Token
 spelling o = Word (name_of o.row) ∷ map argument_token o.args
-
--- whether an argument is of a kind, and within its range
-abbrev pub fits : Arg → ArgKind → Bool
-fits a kind = suits a kind && is_within a kind
-
--- arguments of these kinds, each within its range
-abbrev pub AllFit : List Arg → List ArgKind → Type 0
-AllFit [] [] = Unit {0}
-AllFit [] (kind ∷ kinds) = ⊥
-AllFit (a ∷ args) [] = ⊥
-AllFit (a ∷ args) (kind ∷ kinds) = IsTrue (fits a kind) × AllFit args kinds
 
 -- an operation whose arguments fit its row, before its first record
 abbrev pub IsNew : OpState → Type 0

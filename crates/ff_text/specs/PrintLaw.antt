@@ -2,7 +2,7 @@
 use Rattle.std.specs.Prelude.{◌≡◌, ℕ, ◌≤◌, List, length}
 use Rattle.std.specs.List.{AllByRecursion}
 use Rattle.ff_rec.specs.Number.{IsNumber}
-use Rattle.ff_ops.specs.Operation.{OpState}
+use Rattle.ff_ops.specs.Operation.{OpState, op_node}
 use Rattle.ff_net.specs.Tree.{Tree, Trees, Leaf, Pipe, Comb, Farm, OFarm, A2a, Wrap, none, more}
 use Rattle.ff_text.specs.Cutting.{tokens}
 use Rattle.ff_text.specs.Printing.{IsPrintable, tokens_of}
@@ -10,7 +10,7 @@ use Rattle.ff_text.specs.OperationTokens.{argument_token}
 use Rattle.ff_text.specs.Grammar.{IsNet}
 use Rattle.ff_text.specs.Faults.{text_of}
 use Rattle.ff_text.specs.NetPrinting.{printed_net}
-use Rattle.ff_text.specs.Copies.{opened}
+use Rattle.ff_net.specs.Nodes.{opened}
 use Rattle.ff_text.specs.Reading.{IsReadFault}
 use Rattle.ff_text.specs.declared.fault.ReadFault.{ReadFault}
 use Rattle.ff_text.specs.declared.fault.ReadFault.TheVariants.{NoMemory}
@@ -45,5 +45,5 @@ pub record IsTextOf (text : List ℕ) (t : Tree OpState) : Type 0 where
 -- records, where it isn't too long for a text.
 abbrev pub PrintedNetsAreReadAgain : Type 0
 PrintedNetsAreReadAgain =
-    (t : Tree OpState) → IsNet (opened t) 15 → CanPrint (opened t) → length (printed_net t) ≤ 65536
-    → IsTextOf (printed_net t) (opened t)
+    (t : Tree OpState) → IsNet (opened op_node t) 15 → CanPrint (opened op_node t) → length (printed_net t) ≤ 65536
+    → IsTextOf (printed_net t) (opened op_node t)

@@ -1,9 +1,9 @@
 // Arguments and numbers.
 ghost use Rattle.std.specs.Prelude.{◌≡◌, [], ◌∷◌, IfOk, IsTrue, pos, Some};
-ghost use Rattle.ff_ops.specs.Arguments.{is_numeric};
+ghost use Rattle.ff_ops.specs.Arguments.{is_numeric, fits};
 ghost use Rattle.ff_ops.specs.declared.arg.Arg.TheVariants.{Num, Cmp as Compared};
 ghost use Rattle.ff_text.specs.Grammar.{a_count, IsCount, count_token};
-ghost use Rattle.ff_text.specs.OperationTokens.{argument_token, mark_of, fits};
+ghost use Rattle.ff_text.specs.OperationTokens.{argument_token, mark_of};
 ghost use Rattle.ff_text.specs.Printing.{tokens_of};
 ghost use Rattle.ff_text.specs.Reading.{IsEaten};
 ghost use Rattle.ff_text.specs.Seen.{context_of, token_of};

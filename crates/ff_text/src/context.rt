@@ -6,7 +6,7 @@ ghost use Rattle.ff_text.specs.Names.{net_named, AreNets};
 ghost use Rattle.ff_text.specs.Seen.{name_of, context_of, names_of};
 
 use ff_net::{Net, Version};
-use ff_ops::OpNode;
+use ff_ops::Op;
 use ff_rec::NoMemory;
 use std::alloc::Global;
 
@@ -14,7 +14,7 @@ use std::alloc::Global;
 #[derive(Drop)]
 pub(crate) struct NamedNet {
     pub(crate) word: Vec<u8>,
-    pub(crate) net: Net<OpNode>,
+    pub(crate) net: Net<Op>,
 }
 
 /// The version of a text, and the names that stand for networks in it.
@@ -36,7 +36,7 @@ impl Context {
     }
 
     /// The network of a word.
-    pub(crate) fn net(&self, word: &[u8]) -> Option<&Net<OpNode>>
+    pub(crate) fn net(&self, word: &[u8]) -> Option<&Net<Op>>
         requires { AreNets (names_of self.now) }
         ensures found { MatchOption result (net_named (names_of self.now) word.now ≡ None)
             (λ net. net_named (names_of self.now) word.now ≡ Some (tree_of net.now)) }
@@ -59,7 +59,7 @@ impl Context {
 }
 
 // The network of a word among these names.
-fn net_of<'a>(names: &'a [NamedNet], word: &[u8]) -> Option<&'a Net<OpNode>>
+fn net_of<'a>(names: &'a [NamedNet], word: &[u8]) -> Option<&'a Net<Op>>
     requires { AreNets (map name_of names.now) }
     ensures found { MatchOption result (net_named (map name_of names.now) word.now ≡ None)
         (λ net. net_named (map name_of names.now) word.now ≡ Some (tree_of net.now)) }

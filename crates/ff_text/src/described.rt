@@ -1,7 +1,8 @@
 // The network that a text describes.
 ghost use Rattle.std.specs.Prelude.{◌≡◌, ◌≤◌, ◌∷◌, [], IfOk, OnOk, IfErr, length};
+ghost use Rattle.ff_net.specs.Nodes.{opened};
 ghost use Rattle.ff_net.specs.Tree.{tree_of};
-ghost use Rattle.ff_text.specs.Copies.{opened};
+ghost use Rattle.ff_ops.specs.Operation.{op_node};
 ghost use Rattle.ff_text.specs.Cutting.{tokens};
 ghost use Rattle.ff_text.specs.Faults.{text_of};
 ghost use Rattle.ff_text.specs.Grammar.{IsNet};
@@ -16,18 +17,18 @@ ghost use Rattle.ff_text.specs.Wants.{Finish};
 mod tests;
 
 use crate::context::Context;
-use crate::network::network;
 use crate::misplaced::misplaced;
+use crate::network::network;
 use crate::{ReadFault, Reader, Token};
 use ff_net::{Net, Version};
-use ff_ops::OpNode;
+use ff_ops::Op;
 use std::alloc::Global;
 
 /// A network, and the version of the text that describes it.
 #[derive(Drop)]
 pub struct Described {
     pub version: Version,
-    pub net: Net<OpNode>,
+    pub net: Net<Op>,
 }
 
 /// The most bytes that a text of version One has.
@@ -41,7 +42,7 @@ pub fn read_net(alloc: Global, text: &[u8]) -> Result<Described, ReadFault>
     ensures version { IfOk result (λ d. d.version ≡ Version.One) }
     ensures net { IfOk result (λ d. IsNet (tree_of d.net) 15) }
     ensures text { IfOk result (λ d. tokens_of (tokens text.now) ≡ text_of (tree_of d.net)) }
-    ensures opening { IfOk result (λ d. opened (tree_of d.net) ≡ tree_of d.net) }
+    ensures opening { IfOk result (λ d. opened op_node (tree_of d.net) ≡ tree_of d.net) }
     ensures printable { IfOk result (λ d. CanPrint (tree_of d.net)) }
     ensures within { OnOk result (length text.now ≤ 65536) }
     ensures fault { IfErr result (λ fault. IsReadFault text.now fault) }

@@ -12,14 +12,14 @@ ghost use Rattle.ff_text.specs.Wants.{Network, Parts, Argument, Schedule, Openin
 
 use crate::argument::count;
 use crate::context::Context;
+use crate::delimiters::{another, opening};
 use crate::form::Form;
 use crate::network::{marked, network, side};
-use crate::delimiters::{another, opening};
 use crate::schedule::{route, sched};
 use crate::wrap_test::tested;
 use crate::{ReadFault, Reader};
 use ff_net::{Net, Sched};
-use ff_ops::OpNode;
+use ff_ops::Op;
 use std::alloc::Global;
 
 /// A form with at most `room` forms round one another in it, from behind its word.
@@ -31,7 +31,7 @@ pub(crate) fn formed(
     room: usize,
     form: Form,
     reader: &mut Reader,
-) -> Result<Net<OpNode>, ReadFault>
+) -> Result<Net<Op>, ReadFault>
     requires { AreNets (names_of context.now) }
     ensures eaten { IsEaten (context_of context.now) (rest_of room form)
         result reader.old reader.new }
@@ -79,7 +79,7 @@ fn parts(
     context: &Context,
     room: usize,
     reader: &mut Reader,
-) -> Result<Vec<Net<OpNode>>, ReadFault>
+) -> Result<Vec<Net<Op>>, ReadFault>
     requires { AreNets (names_of context.now) }
     ensures eaten { IsEaten (context_of context.now) (Opening ∷ Network room ∷ Parts room ∷ [])
         result reader.old reader.new }
@@ -105,7 +105,7 @@ fn farm(
     context: &Context,
     room: usize,
     reader: &mut Reader,
-) -> Result<(u32, Sched, Box<Net<OpNode>>), ReadFault>
+) -> Result<(u32, Sched, Box<Net<Op>>), ReadFault>
     requires { AreNets (names_of context.now) }
     ensures eaten { IsEaten (context_of context.now)
         (Argument a_count ∷ Schedule ∷ Opening ∷ Network room ∷ Closing ∷ []) result reader.old reader.new }
@@ -129,7 +129,7 @@ fn a2a(
     context: &Context,
     room: usize,
     reader: &mut Reader,
-) -> Result<Net<OpNode>, ReadFault>
+) -> Result<Net<Op>, ReadFault>
     requires { AreNets (names_of context.now) }
     ensures eaten { IsEaten (context_of context.now) (rest_of room Form.A2a)
         result reader.old reader.new }

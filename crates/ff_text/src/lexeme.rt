@@ -99,8 +99,16 @@ fn sign(first: u8, rest: &[u8]) -> Lexeme<'_>
         b',' => piece(Token::Sign(TextMark::Comma), 0),
         b';' => piece(Token::Sign(TextMark::Semicolon), 0),
         b'=' => piece(Token::Sign(TextMark::Equal), 0),
-        b'<' => with_equal(Token::Sign(TextMark::Less), Token::Sign(TextMark::AtMost), rest),
-        b'>' => with_equal(Token::Sign(TextMark::Greater), Token::Sign(TextMark::AtLeast), rest),
+        b'<' => with_equal(
+            Token::Sign(TextMark::Less),
+            Token::Sign(TextMark::AtMost),
+            rest,
+        ),
+        b'>' => with_equal(
+            Token::Sign(TextMark::Greater),
+            Token::Sign(TextMark::AtLeast),
+            rest,
+        ),
         b'!' => with_equal(Token::Bad, Token::Sign(TextMark::Unequal), rest),
         _ => piece(Token::Bad, 0),
     }

@@ -5,9 +5,7 @@
 mod argument;
 mod byte_class;
 mod context;
-mod copied;
 mod delimiters;
-mod depth;
 mod described;
 mod fault;
 mod form;
@@ -29,10 +27,9 @@ pub use described::{Described, MOST_BYTES, read_net};
 pub use fault::{ReadFault, TextKind};
 pub use laws::{
     forms_round_one_another_are_the_depth, networks_spelled_alike_are_the_same,
-    networks_without_names_are_spelled_one_way,
-    printed_networks_are_spelled, printed_operations_are_read, printed_pieces_are_cut_into_them,
-    stops_are_first_faults, texts_are_cut_from_the_front, texts_of_networks_are_taken,
-    texts_stop_at_their_end,
+    networks_without_names_are_spelled_one_way, printed_networks_are_spelled,
+    printed_operations_are_read, printed_pieces_are_cut_into_them, stops_are_first_faults,
+    texts_are_cut_from_the_front, texts_of_networks_are_taken, texts_stop_at_their_end,
 };
 pub use print::{print_described, print_net};
 pub use reader::Reader;

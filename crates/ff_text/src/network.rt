@@ -15,16 +15,14 @@ mod tests;
 
 use crate::argument::count;
 use crate::context::Context;
-use crate::copied::copied;
-use crate::depth::depth;
+use crate::delimiters::{closing, opening};
 use crate::form::Form;
 use crate::form_body::formed;
-use crate::operation::operation;
-use crate::delimiters::{closing, opening};
 use crate::misplaced::{fault_at, misplaced};
+use crate::operation::operation;
 use crate::{ReadFault, Reader, TextKind, Token};
 use ff_net::Net;
-use ff_ops::{OpNode, Row};
+use ff_ops::{Op, Row};
 use std::alloc::Global;
 
 /// A network with at most `room` forms round one another.
@@ -34,7 +32,7 @@ pub(crate) fn network(
     context: &Context,
     room: usize,
     reader: &mut Reader,
-) -> Result<Net<OpNode>, ReadFault>
+) -> Result<Net<Op>, ReadFault>
     requires { AreNets (names_of context.now) }
     ensures eaten { IsEaten (context_of context.now) (Network room ∷ [])
         result reader.old reader.new }
@@ -65,7 +63,7 @@ fn used(
     room: usize,
     word: &[u8],
     at: usize,
-) -> Result<Net<OpNode>, ReadFault>
+) -> Result<Net<Op>, ReadFault>
     requires { AreNets (names_of context.now) }
     ensures begun { IsBegun (begin_use (net_named (names_of context.now) word.now) room) at result }
     ensures net { IfOk result (λ net. IsNet (tree_of net) room) }
@@ -75,10 +73,10 @@ fn used(
     let Some(net) = context.net(word) else {
         return Err(fault_at(at, TextKind::UnknownName));
     };
-    if depth(net) > room.saturating_add(1) {
+    if net.depth() > room.saturating_add(1) {
         return Err(fault_at(at, TextKind::Deep));
     }
-    Ok(copied(alloc, net)?)
+    Ok(net.copy(alloc)?)
 }
 
 /// Copies of a network.
@@ -88,7 +86,7 @@ pub(crate) fn side(
     context: &Context,
     room: usize,
     reader: &mut Reader,
-) -> Result<(u32, Box<Net<OpNode>>), ReadFault>
+) -> Result<(u32, Box<Net<Op>>), ReadFault>
     requires { AreNets (names_of context.now) }
     ensures eaten { IsEaten (context_of context.now)
         (Argument a_count ∷ Opening ∷ Network room ∷ Closing ∷ []) result reader.old reader.new }
@@ -110,7 +108,7 @@ pub(crate) fn marked(
     context: &Context,
     room: usize,
     reader: &mut Reader,
-) -> Result<Box<Net<OpNode>>, ReadFault>
+) -> Result<Box<Net<Op>>, ReadFault>
     requires { AreNets (names_of context.now) }
     ensures eaten { IsEaten (context_of context.now) (Opening ∷ Network room ∷ Closing ∷ [])
         result reader.old reader.new }

@@ -1,7 +1,8 @@
 // One operation of a network's text.
 ghost use Rattle.std.specs.Prelude.{◌≡◌, ◌∷◌, ◌++◌, map, IfOk};
 ghost use Rattle.ff_ops.specs.Table.{name_of, kinds_of};
-ghost use Rattle.ff_text.specs.OperationTokens.{argument_token, IsNew, spelling, AllFit};
+ghost use Rattle.ff_ops.specs.Arguments.{AllFit};
+ghost use Rattle.ff_text.specs.OperationTokens.{argument_token, IsNew, spelling};
 ghost use Rattle.ff_text.specs.Printing.{tokens_of};
 ghost use Rattle.ff_text.specs.Reading.{IsEaten};
 ghost use Rattle.ff_text.specs.Seen.{context_of};
@@ -11,7 +12,7 @@ ghost use Rattle.ff_text.specs.Wants.{Argument};
 use crate::argument::argument_of;
 use crate::context::Context;
 use crate::{ReadFault, Reader};
-use ff_ops::{Arg, ArgKind, Op, OpNode, Row};
+use ff_ops::{Arg, ArgKind, Op, Row};
 use std::alloc::Global;
 
 /// The operation of a row, from behind its name.
@@ -20,7 +21,7 @@ pub(crate) fn operation(
     context: &Context,
     row: Row,
     reader: &mut Reader,
-) -> Result<OpNode, ReadFault>
+) -> Result<Op, ReadFault>
     ensures eaten { IsEaten (context_of context.now) (map (λ kind. Argument kind) (kinds_of row))
         result reader.old reader.new }
     ensures fits { IfOk result (λ o. IsNew o) }
@@ -28,11 +29,7 @@ pub(crate) fn operation(
         Word (name_of row) ∷ tokens_of reader.old ≡ spelling o ++ tokens_of reader.new) }
 {
     let args = arguments_of(alloc, context, row.kinds(), reader)?;
-    // The arguments fit, so that memory alone can be short.
-    match Op::read(alloc, row.name(), &args) {
-        Ok(op) => Ok(OpNode::new(op)),
-        Err(_) => Err(ReadFault::NoMemory),
-    }
+    Ok(Op::of_row(alloc, row, args)?)
 }
 
 // An argument of each kind.

@@ -10,17 +10,17 @@ mod tests;
 use crate::Described;
 use crate::print::form_words::{print_front, print_middle, print_side, print_test};
 use ff_net::{Net, Sched, Version};
-use ff_ops::OpNode;
+use ff_ops::Op;
 use ff_rec::NoMemory;
 
 /// Appends the printed form of a network. Where memory runs out some of it may have been appended.
 #[cycle(printing)]
 #[tactic(auto, using(ff_net::specs::Tree::tree_forms))]
-pub fn print_net(net: &Net<OpNode>, into: &mut Vec<u8>) -> Result<(), NoMemory>
+pub fn print_net(net: &Net<Op>, into: &mut Vec<u8>) -> Result<(), NoMemory>
     ensures { OnOk result (into.new.items ≡ into.old.items ++ printed_net (tree_of net.now)) }
 {
     match net {
-        Net::Leaf(node) => node.op().print(into)?,
+        Net::Leaf(node) => node.print(into)?,
         Net::Pipe(parts) => print_parts(b"pipe(", parts, into)?,
         Net::Comb(parts) => print_parts(b"comb(", parts, into)?,
         Net::Farm {
@@ -74,7 +74,7 @@ pub fn print_described(described: &Described, into: &mut Vec<u8>) -> Result<(), 
 // A pipe or comb: its word with `(`, its parts, and `)`.
 #[cycle(printing)]
 #[tactic(auto, using(ff_net::specs::Tree::tree_forms))]
-fn print_parts(word: &[u8], parts: &[Net<OpNode>], into: &mut Vec<u8>) -> Result<(), NoMemory>
+fn print_parts(word: &[u8], parts: &[Net<Op>], into: &mut Vec<u8>) -> Result<(), NoMemory>
     ensures { OnOk result
         (into.new.items ≡ into.old.items ++ (word.now ++ printed_parts (trees_of parts.now))) }
 {
@@ -98,7 +98,7 @@ fn print_farm(
     word: &[u8],
     workers: u32,
     sched: Sched,
-    worker: &Net<OpNode>,
+    worker: &Net<Op>,
     into: &mut Vec<u8>,
 ) -> Result<(), NoMemory>
     ensures { OnOk result (into.new.items ≡ into.old.items

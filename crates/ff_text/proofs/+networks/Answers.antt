@@ -13,7 +13,7 @@ use Rattle.ff_text.specs.Printing.{tokens_of}
 use Rattle.ff_text.specs.Seen.{token_of, behind, context_of}
 use Rattle.ff_text.specs.Spelling.{Spells}
 use Rattle.ff_text.specs.Wants.{Want, Network, Parts, Opening, walk}
-use Rattle.ff_text.proofs.OpParts.{name_of-row_named}
+use Rattle.ff_ops.proofs.RowLaws.{name_of-row_named}
 use Rattle.ff_text.proofs.Named.{form_word-form_named}
 use Rattle.ff_text.proofs.Parts.{left, ArePartsSoFar, ArePartsSoFar-push, SpellsSoFar, SpellsSoFar-push}
 use Rattle.ff_text.proofs.Shorter.{Spells-shorter}
@@ -70,8 +70,8 @@ form_body::parts-loop-more-preserved t c =
     let last = subst (λ ts. Spells context.names (tree_of net) (tokens_of c.loop-more.reader) ts) c.in_ok-more.ensures.text c.in_ok-network.ensures.text in
     record {
       eaten = λ ws. so ws ∙ c.in_ok-network.ensures.eaten (Parts room ∷ ws) ∙ eaten-another context room another c.network.new.reader c.another.new.reader (c.in_ok-more.ensures.eaten room) ws;
-      nets = subst (λ items. ArePartsSoFar another (trees_of items) room) (sym c.in_ok-push.ensures.items) (ArePartsSoFar-push another done net room nets c.in_ok-network.ensures.net);
-      text = subst (λ items. SpellsSoFar context.names another (trees_of items) start rest) (sym c.in_ok-push.ensures.items)
+      nets = subst (λ items. ArePartsSoFar another (trees_of items) room) (sym {A = List (Net OpState)} c.in_ok-push.ensures.items) (ArePartsSoFar-push another done net room nets c.in_ok-network.ensures.net);
+      text = subst (λ items. SpellsSoFar context.names another (trees_of items) start rest) (sym {A = List (Net OpState)} c.in_ok-push.ensures.items)
           (SpellsSoFar-push context.names net (tokens_of c.loop-more.reader) another done start rest text last);
     }
 

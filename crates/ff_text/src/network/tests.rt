@@ -81,14 +81,25 @@ fn words_stand_for_networks(rt: HostRuntime) -> Result<(), Fail> {
         (15, "w", "add 1 1"),
         (15, "farm 2 rr (w)", "farm 2 rr (add 1 1)"),
         (15, "comb(w, neg 1, w)", "comb(add 1 1, neg 1, add 1 1)"),
-        (15, "a2a 1 (w) od 2 (deep)", "a2a 1 (add 1 1) od 2 (pipe(pipe(id)))"),
+        (
+            15,
+            "a2a 1 (w) od 2 (deep)",
+            "a2a 1 (add 1 1) od 2 (pipe(pipe(id)))",
+        ),
         (15, "wrap 2 (w) if 1 > 1", "wrap 2 (add 1 1) if 1 > 1"),
         (15, "pipe(id)", "pipe(id)"),
         (15, "farm 2 rr (rr)", "farm 2 rr (neg 3)"),
         (2, "deep", "pipe(pipe(id))"),
         (3, "pipe(id, deep)", "pipe(id, pipe(pipe(id)))"),
     ] {
-        expect_read(&rt, alloc, &context, room, text.as_bytes(), printed.as_bytes())?;
+        expect_read(
+            &rt,
+            alloc,
+            &context,
+            room,
+            text.as_bytes(),
+            printed.as_bytes(),
+        )?;
     }
     for (room, text, at, kind) in [
         (1, "deep", 0, TextKind::Deep),

@@ -27,7 +27,12 @@ pub(super) fn print_side(word: &[u8], n: u32, into: &mut Vec<u8>) -> Result<(), 
 }
 
 /// The front of a farm, up to `(`.
-pub(super) fn print_front(word: &[u8], n: u32, sched: Sched, into: &mut Vec<u8>) -> Result<(), NoMemory>
+pub(super) fn print_front(
+    word: &[u8],
+    n: u32,
+    sched: Sched,
+    into: &mut Vec<u8>,
+) -> Result<(), NoMemory>
     ensures { OnOk result (into.new.items ≡ into.old.items ++ printed_farm word.now n sched) }
 {
     into.extend_from_slice(word)?;

@@ -1,7 +1,9 @@
 // The expected tokens and places are counted by hand from the rules of a text.
 use super::*;
 use crate::TextMark;
-use crate::TextMark::{AtLeast, AtMost, Close, Comma, Equal, Greater, Less, Open, Semicolon, Unequal};
+use crate::TextMark::{
+    AtLeast, AtMost, Close, Comma, Equal, Greater, Less, Open, Semicolon, Unequal,
+};
 use crate::Token::{Bad, Number, Quoted, Sign, Word};
 use std::process::Abort;
 
@@ -30,16 +32,45 @@ fn tokens_have_their_places(rt: HostRuntime) {
         expect_tokens(&rt, text.as_bytes(), &[]);
     }
     let cases: [(&[u8], &[(Token, usize)]); 15] = [
-        (b"add 01 5", &[(Word(b"add"), 0), (Number(Some(1)), 4), (Number(Some(5)), 7)]),
-        (b"a1 1a", &[(Word(b"a1"), 0), (Number(Some(1)), 3), (Word(b"a"), 4)]),
-        (b"-0 -007-8", &[(Number(Some(0)), 0), (Number(Some(-7)), 3), (Number(Some(-8)), 7)]),
+        (
+            b"add 01 5",
+            &[
+                (Word(b"add"), 0),
+                (Number(Some(1)), 4),
+                (Number(Some(5)), 7),
+            ],
+        ),
+        (
+            b"a1 1a",
+            &[(Word(b"a1"), 0), (Number(Some(1)), 3), (Word(b"a"), 4)],
+        ),
+        (
+            b"-0 -007-8",
+            &[
+                (Number(Some(0)), 0),
+                (Number(Some(-7)), 3),
+                (Number(Some(-8)), 7),
+            ],
+        ),
         (
             b"-9223372036854775808 -9223372036854775809",
             &[(Number(Some(-9223372036854775808)), 0), (Number(None), 21)],
         ),
-        (b"00000000000000000000000000000000000000007", &[(Number(Some(7)), 0)]),
+        (
+            b"00000000000000000000000000000000000000007",
+            &[(Number(Some(7)), 0)],
+        ),
         (b"18446744073709551617", &[(Number(None), 0)]),
-        (b"p(,id)", &[(Word(b"p"), 0), (Sign(Open), 1), (Sign(Comma), 2), (Word(b"id"), 3), (Sign(Close), 5)]),
+        (
+            b"p(,id)",
+            &[
+                (Word(b"p"), 0),
+                (Sign(Open), 1),
+                (Sign(Comma), 2),
+                (Word(b"id"), 3),
+                (Sign(Close), 5),
+            ],
+        ),
         (
             b"< = <> <=>=!===;",
             &[
@@ -57,7 +88,12 @@ fn tokens_have_their_places(rt: HostRuntime) {
         ),
         (
             b"set \"a # b\r\"\"\"x",
-            &[(Word(b"set"), 0), (Quoted(b"a # b\r"), 4), (Quoted(b""), 12), (Word(b"x"), 14)],
+            &[
+                (Word(b"set"), 0),
+                (Quoted(b"a # b\r"), 4),
+                (Quoted(b""), 12),
+                (Word(b"x"), 14),
+            ],
         ),
         (b"id# pipe \"\nid#", &[(Word(b"id"), 0), (Word(b"id"), 11)]),
         (b"- 1", &[(Bad, 0), (Number(Some(1)), 2)]),

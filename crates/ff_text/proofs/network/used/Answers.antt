@@ -21,9 +21,9 @@ returns-clause-net c =
     let tree = tree_of c.in-Some.net.now in
     let shallow = depth-net tree c.in-Some.ensures.fits in
     let fits : depth tree ≤ suc c.args.room = omega (arith, c.depth.ensures, c.saturating_add.ensures, shallow) in
-    subst (λ net. IsNet net c.args.room) (sym (c.in_ok-copied.ensures ∙ opened-net tree 15 c.in-Some.ensures.fits)) (IsNet-room tree c.args.room c.in-Some.ensures.fits fits)
+    subst (λ net. IsNet net c.args.room) (sym (c.in_ok-copy.ensures ∙ opened-net tree 15 c.in-Some.ensures.fits)) (IsNet-room tree c.args.room c.in-Some.ensures.fits fits)
 
 pub returns-clause-named : goal.returns-clause-named
 returns-clause-named c =
     let tree = tree_of c.in-Some.net.now in
-    c.in-Some.ensures.found ∙ ap (λ net. Some net) (sym (c.in_ok-copied.ensures ∙ opened-net tree 15 c.in-Some.ensures.fits))
+    c.in-Some.ensures.found ∙ ap (λ net. Some net) (sym (c.in_ok-copy.ensures ∙ opened-net tree 15 c.in-Some.ensures.fits))

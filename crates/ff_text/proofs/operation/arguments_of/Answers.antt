@@ -4,7 +4,8 @@ use Rattle.std.proofs.lemmas.List.{drop_more, take_more, map-append}
 use Rattle.ff_ops.specs.declared.arg.Arg.{Arg}
 use Rattle.ff_ops.specs.declared.arg.ArgKind.{ArgKind}
 use Rattle.ff_ops.specs.declared.arg.ArgKind.TheVariants.{Field}
-use Rattle.ff_text.specs.OperationTokens.{argument_token, fits, AllFit}
+use Rattle.ff_ops.specs.Arguments.{fits, AllFit}
+use Rattle.ff_text.specs.OperationTokens.{argument_token}
 use Rattle.ff_text.specs.Printing.{tokens_of}
 use Rattle.ff_text.specs.Seen.{context_of}
 use Rattle.ff_text.specs.Wants.{Argument, walk}
@@ -29,7 +30,7 @@ loop-kind-preserved c =
           c.loop-kind.invariant.eaten ws
           ∙ ap (λ ks. walk (context_of c.args.context.now) c.loop-kind.reader (map (λ k. Argument k) ks ++ ws)) (drop_more kinds i Field within)
           ∙ h.eaten (map (λ k. Argument k) (drop (i + 1) kinds) ++ ws);
-      fit = subst (λ args. AllFit args (take (i + 1) kinds)) (sym c.in_ok-push.ensures.items)
+      fit = subst (λ args. AllFit args (take (i + 1) kinds)) (sym {A = List Arg} c.in_ok-push.ensures.items)
           (subst (λ ks. AllFit (c.loop-kind.args.items ++ a ∷ []) ks) (sym (take_more kinds i Field within))
           (AllFit-push c.loop-kind.args.items (take i kinds) a kind c.loop-kind.invariant.fit h.fits));
       text =
@@ -37,5 +38,5 @@ loop-kind-preserved c =
           ∙ ap (λ ts. map argument_token c.loop-kind.args.items ++ ts) h.text
           ∙ sym (append_assoc (map argument_token c.loop-kind.args.items) (argument_token a ∷ []) (tokens_of c.argument_of.new.reader))
           ∙ ap (λ ts. ts ++ tokens_of c.argument_of.new.reader) (sym (map-append argument_token c.loop-kind.args.items (a ∷ [])))
-          ∙ ap (λ args. map argument_token args ++ tokens_of c.argument_of.new.reader) (sym c.in_ok-push.ensures.items);
+          ∙ ap (λ args. map argument_token args ++ tokens_of c.argument_of.new.reader) (sym {A = List Arg} c.in_ok-push.ensures.items);
     }

@@ -1,5 +1,6 @@
 use Rattle.std.proofs.Common.{◌≡◌, List, ◌++◌, map, take, drop}
-use Rattle.ff_text.specs.OperationTokens.{argument_token, AllFit}
+use Rattle.ff_ops.specs.Arguments.{AllFit}
+use Rattle.ff_text.specs.OperationTokens.{argument_token}
 use Rattle.ff_text.specs.Printing.{tokens_of}
 use Rattle.ff_text.specs.Seen.{context_of}
 use Rattle.ff_text.specs.Wants.{Want, Argument, walk}

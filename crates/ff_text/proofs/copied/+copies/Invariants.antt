@@ -1,8 +1,0 @@
-use Rattle.std.proofs.Common.{◌≡◌, take}
-use Rattle.ff_net.specs.Tree.{trees_of}
-use Rattle.ff_text.specs.Copies.{all_opened}
-use Rattle.ff_text.proofs.copied.+copies.Given as goal
-
--- what is copied so far
-abbrev pub invariant-all_copied-loop-part : goal.invariant-all_copied-loop-part
-invariant-all_copied-loop-part l = trees_of l.copies.items ≡ all_opened (trees_of (take l.part-index l.parts))
