@@ -1,4 +1,3 @@
-pub mod StageNodes
 pub mod StageFields
 pub mod UnitRuns
 pub mod UnitAborts

@@ -1,14 +1,10 @@
 -- What the parts of a stage do, each for itself.
-use Rattle.std.specs.Prelude.{◌≡◌, Bool, true, false, List, [], ◌∷◌, ◌++◌, Option, None, Some}
+use Rattle.std.specs.Prelude.{◌≡◌, Bool, List, [], ◌∷◌, ◌++◌, Option, None, Some}
 use Rattle.std.specs.Option.{option_to_list}
 use Rattle.ff_rec.specs.Lines.{Rec}
 use Rattle.ff_rec.specs.Streams.{carried}
 use Rattle.ff_rec.specs.declared.msg.Msg.TheVariants.{Abort as AbortMsg}
-use Rattle.ff_node.specs.Behaviour.{Behaviour}
 use Rattle.ff_node.specs.Runs.{Message}
-use Rattle.ff_node.specs.Sends.{Sent, add}
-use Rattle.ff_node.specs.declared.class.Next.{Next}
-use Rattle.ff_node.specs.declared.class.Next.TheVariants.{GoOn, Eos as EosNext}
 use Rattle.ff_port.specs.declared.answers.End.{End}
 use Rattle.ff_unit.specs.Stage.{StageState}
 use Rattle.ff_unit.specs.declared.mode.Mode.TheVariants.{Cut}
@@ -21,13 +17,6 @@ held_of front sends back = option_to_list front ++ (carried sends ++ option_to_l
 abbrev pub TakesHeld : List Message → Option Message → List Message → Type 0
 TakesHeld held None held' = (held ≡ []) × (held' ≡ [])
 TakesHeld held (Some m) held' = held ≡ m ∷ held'
-
--- a node took a record, and where it ended it has sent what it sends at the end
-abbrev pub Feeds : {S : Type 0} → Behaviour S → S → Sent → Rec → Next → S → Sent → Type 0
-Feeds b n out x GoOn n' out' = (b.ends n x ≡ false) × (n' ≡ b.next n x) × (out' ≡ add out (b.sends n x) (b.rejects n x))
-Feeds b n out x EosNext n' out' =
-    (b.ends n x ≡ true) × (n' ≡ b.opening (b.next n x))
-    × (out' ≡ add out (b.sends n x ++ b.last (b.next n x)) (b.rejects n x ++ b.last_rejects (b.next n x)))
 
 -- Abort alone is held, and nothing of the sends and rejects is left
 abbrev pub given_up : {N : Type 0} → StageState N → Bool → Option End → StageState N

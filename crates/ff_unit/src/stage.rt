@@ -3,7 +3,6 @@ ghost use Rattle.std.specs.Prelude.{◌≡◌};
 ghost use Rattle.ff_unit.specs.Stage.{opened_stage};
 
 mod held;
-mod nodes;
 mod steps;
 mod takes;
 
@@ -11,7 +10,7 @@ use crate::{Mode, Unit};
 use ff_node::{Node, Sends};
 use ff_port::{End, Past, Ports, Put, Step};
 use ff_rec::{Msg, Record};
-use held::{drop_sends, no_sends, take_held};
+use held::{drop_sends, take_held};
 use std::alloc::Global;
 use std::marker::Model;
 
@@ -65,7 +64,7 @@ impl<N: Node> Stage<N> {
         Stage {
             node,
             front: None,
-            sends: no_sends(alloc, keep),
+            sends: Sends::new(alloc, keep),
             back: None,
             mode: Mode::Live,
             fin: None,

@@ -1,22 +1,9 @@
 // What a stage holds to be put.
 ghost use Rattle.std.specs.Prelude.{◌≡◌, [], ◌∷◌, None};
-ghost use Rattle.ff_node.specs.Sends.{nothing_sent};
 ghost use Rattle.ff_unit.specs.StageParts.{held_of, TakesHeld};
 
 use ff_node::Sends;
 use ff_rec::{Msg, Record};
-use std::alloc::Global;
-
-/// Nothing sent and nothing rejected.
-pub fn no_sends(alloc: Global, keeps: bool) -> Sends
-    ensures { result ≡ nothing_sent keeps }
-{
-    if keeps {
-        Sends::keeping(alloc)
-    } else {
-        Sends::counting(alloc)
-    }
-}
 
 /// The first message that is held, which is taken out.
 pub fn take_held(

@@ -5,10 +5,8 @@ ghost use Rattle.ff_unit.specs.StageParts.{given_up};
 ghost use Rattle.ff_unit.specs.StageSteps.{GivesUp, works, closes, LiveTakes, ShutTakes, CutTakes, StageTakes};
 
 use super::Stage;
-use super::held::no_sends;
-use super::nodes::{end_node, feed};
 use crate::Mode;
-use ff_node::{Next, Node};
+use ff_node::{Next, Node, Sends, node_end, node_step};
 use ff_port::End;
 use ff_rec::{Msg, Record};
 
@@ -71,7 +69,7 @@ impl<N: Node> Stage<N> {
         ensures { (self.new ≡ works N.does self.old r) ⊎ GivesUp N.does self.old None self.new }
     {
         let keeps = self.sends.keeps();
-        match feed(&mut self.node, r, &mut self.sends) {
+        match node_step(&mut self.node, r, &mut self.sends) {
             Ok(Next::GoOn) => {}
             Ok(Next::Eos) => {
                 self.back = Some(Msg::Eos);
@@ -87,7 +85,7 @@ impl<N: Node> Stage<N> {
         ensures { (self.new ≡ closes N.does self.old self.old.node [] [] (Some End.Eos)) ⊎ GivesUp N.does self.old (Some End.Memory) self.new }
     {
         let keeps = self.sends.keeps();
-        match end_node(&mut self.node, &mut self.sends) {
+        match node_end(&mut self.node, &mut self.sends) {
             Ok(()) => {
                 self.back = Some(Msg::Eos);
                 self.mode = Mode::Shut;
@@ -102,7 +100,7 @@ impl<N: Node> Stage<N> {
         ensures { self.new ≡ given_up self.old keeps fin }
     {
         self.front = None;
-        self.sends = no_sends(self.alloc, keeps);
+        self.sends = Sends::new(self.alloc, keeps);
         self.back = Some(Msg::Abort);
         self.mode = Mode::Cut;
         self.fin = fin;
