@@ -6,7 +6,7 @@ use Rattle.ff_rec.specs.Lines.{Rec}
 use Rattle.ff_rec.specs.Weights.{Same}
 use Rattle.ff_rec.proofs.WeightLaws.{Same-≡, Same-trans, Same-sym, Same-append}
 use Rattle.ff_node.specs.Behaviour.{Behaviour, KeepsKind, node, node_rejected, pipeline, pipeline_rejected, sent_from, rejected_from}
-use Rattle.ff_node.specs.Comb.{Part, running, nodes_of, comb_node, CombIsLine}
+use Rattle.ff_node.specs.Comb.{Part, running, nodes_of, comb_node, CombIsPipeline}
 use Rattle.ff_net.specs.Forms.{has_wrap}
 use Rattle.ff_net.specs.Tree.{Tree}
 use Rattle.ff_mean.specs.Runs.{IsPipeline}
@@ -43,14 +43,14 @@ module _ {S : Type 0} (b : Behaviour S) where
       ∙ sym (append_assoc (node_rejected b o xs) (pipeline_rejected b os (node b o xs)) (pipeline_rejected b ps (pipeline b os (node b o xs))))
 
   -- combs in a row are all their nodes in a row
-  pipeline-groups : CombIsLine b → (groups : List (List (Part S))) (xs : List Rec) → pipeline (comb_node b) groups xs ≡ pipeline b (all_nodes groups) xs
+  pipeline-groups : CombIsPipeline b → (groups : List (List (Part S))) (xs : List Rec) → pipeline (comb_node b) groups xs ≡ pipeline b (all_nodes groups) xs
   pipeline-groups combed [] xs = refl
   pipeline-groups combed (g ∷ gs) xs =
       pipeline-groups combed gs (node (comb_node b) g xs)
       ∙ ap (λ (l : List Rec). pipeline b (all_nodes gs) l) (combed g xs).0
       ∙ sym (pipeline-append (nodes_of g) (all_nodes gs) xs)
 
-  pipeline_rejected-groups : CombIsLine b → (groups : List (List (Part S))) (xs : List Rec)
+  pipeline_rejected-groups : CombIsPipeline b → (groups : List (List (Part S))) (xs : List Rec)
       → Same (pipeline_rejected (comb_node b) groups xs) (pipeline_rejected b (all_nodes groups) xs)
   pipeline_rejected-groups combed [] xs = Same-≡ [] [] refl
   pipeline_rejected-groups combed (g ∷ gs) xs =
@@ -63,7 +63,7 @@ module _ {S : Type 0} (b : Behaviour S) where
       ∙ sym (pipeline_rejected-append (nodes_of g) (all_nodes gs) xs))))
 
 module _ {N S : Type 0} (does : Behaviour N) (net : Tree N) (b : Behaviour S) where
-  pub ArePipelineOf-groups : CombIsLine b → (os : List S) (groups : List (List (Part S))) → all_nodes groups ≡ os → ArePipelineOf does net b os → ArePipelineOf does net (comb_node b) groups
+  pub ArePipelineOf-groups : CombIsPipeline b → (os : List S) (groups : List (List (Part S))) → all_nodes groups ≡ os → ArePipelineOf does net b os → ArePipelineOf does net (comb_node b) groups
   ArePipelineOf-groups combed os groups is stand = record {
     no_wrap = stand.no_wrap;
     fine = stand.fine;
@@ -72,7 +72,7 @@ module _ {N S : Type 0} (does : Behaviour N) (net : Tree N) (b : Behaviour S) wh
         (Same-trans (Same-≡ _ _ (ap (λ l. pipeline_rejected b l xs) (sym is))) (Same-sym (pipeline_rejected-groups b combed groups xs)));
   }
 
-  pub IfOk-groups : {A E : Type 0} (answer : Result A E) (items : A → List (List (Part S))) → CombIsLine b → (os : List S) → IfOk answer (λ a. all_nodes (items a) ≡ os)
+  pub IfOk-groups : {A E : Type 0} (answer : Result A E) (items : A → List (List (Part S))) → CombIsPipeline b → (os : List S) → IfOk answer (λ a. all_nodes (items a) ≡ os)
       → ArePipelineOf does net b os → IfOk answer (λ a. ArePipelineOf does net (comb_node b) (items a))
   IfOk-groups (Ok a) items combed os grouped stand = ArePipelineOf-groups combed os (items a) grouped stand
   IfOk-groups (Err e) items combed os grouped stand = tt
@@ -87,7 +87,7 @@ module _ {N S : Type 0} (does : Behaviour N) (net : Tree N) (b : Behaviour S) wh
   }
 
   -- several as a comb
-  pub IsNodeOf-comb : CombIsLine b → (os : List S) → ArePipelineOf does net b os → IsNodeOf does net (comb_node b) (running os)
+  pub IsNodeOf-comb : CombIsPipeline b → (os : List S) → ArePipelineOf does net b os → IsNodeOf does net (comb_node b) (running os)
   IsNodeOf-comb combed os stand = record {
     no_wrap = stand.no_wrap;
     fine = stand.fine;
