@@ -2,6 +2,7 @@
 use super::{SOUND, Setting, Want, call, check};
 use crate::tests::cases::cases_of;
 use ff_io::Source;
+use std::alloc::Global;
 use std::test::Fail;
 
 // Calls whose output takes nothing, on an input of which a read gives at most two bytes.
@@ -36,10 +37,8 @@ fn results_show_before_the_end(rt: HostRuntime) -> Result<(), Fail> {
     Ok(())
 }
 
-// A pipeline of more nodes than a comb may have.
-#[test]
-fn a_pipeline_of_65_nodes(rt: HostRuntime) -> Result<(), Fail> {
-    let alloc = rt.alloc();
+// The text of a pipeline of 65 nodes, which are more than a comb may have.
+fn long_pipeline(alloc: Global) -> Result<String, Fail> {
     let mut text = String::from_str(alloc, "pipe(pipe(add 1 1")?;
     for k in 0..63 {
         text.push_str(if k == 32 {
@@ -49,6 +48,12 @@ fn a_pipeline_of_65_nodes(rt: HostRuntime) -> Result<(), Fail> {
         })?;
     }
     text.push_str(", add 1 1))")?;
+    Ok(text)
+}
+
+#[test]
+fn a_pipeline_of_65_nodes(rt: HostRuntime) -> Result<(), Fail> {
+    let text = long_pipeline(rt.alloc())?;
     let broken = Setting {
         most: 2,
         fails: 3,
@@ -63,7 +68,34 @@ fn a_pipeline_of_65_nodes(rt: HostRuntime) -> Result<(), Fail> {
             out: b"66\n",
             err,
         };
-        check(&rt, alloc, &["run", text.as_str()], b"1\nx\n", by, want)?;
+        check(
+            &rt,
+            rt.alloc(),
+            &["run", text.as_str()],
+            b"1\nx\n",
+            by,
+            want,
+        )?;
     }
+    Ok(())
+}
+
+#[test]
+fn a_pipeline_of_65_nodes_flows(rt: HostRuntime) -> Result<(), Fail> {
+    let text = long_pipeline(rt.alloc())?;
+    let full = Setting {
+        most: 2,
+        out: 0,
+        ..SOUND
+    };
+    let want = Want {
+        status: 4,
+        out: b"",
+        err: b"ffrun: write fault\n",
+    };
+    let words = ["run", text.as_str()];
+    let mut answer = check(&rt, rt.alloc(), &words, b"1\n2\n", full, want)?;
+    let mut room = [0; 2];
+    assert_eq!(&rt; answer.input.read(&mut room)?, 2);
     Ok(())
 }
