@@ -15,6 +15,7 @@ pub trait Node: Drop {
     /// What it does, in each of its states.
     ghost does: { Behaviour Self };
 
+    /// What it promises.
     fn class(&self) -> Class
         ensures { result ≡ does.class self.now };
 

@@ -19,7 +19,7 @@ pub(crate) fn joint_class<N: Node>(nodes: &[N]) -> Class
     class
 }
 
-/// The class of two nodes, one behind the other.
+// The class of two nodes, one behind the other.
 fn both(front: Class, back: Class) -> Class
     ensures { result ≡ both front back }
 {

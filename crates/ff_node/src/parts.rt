@@ -90,11 +90,7 @@ pub(crate) fn finish<N: Node>(
 }
 
 // The records in `out` through all parts: what comes out behind the last is in their place then.
-fn pass_all<N: Node>(
-    nodes: &mut [N],
-    ended: &mut [bool],
-    out: &mut Sends,
-) -> Result<(), NoMemory>
+fn pass_all<N: Node>(nodes: &mut [N], ended: &mut [bool], out: &mut Sends) -> Result<(), NoMemory>
     requires flags { length nodes.old ≤ length ended.old }
     ensures kind { map N.does.opening nodes.new ≡ map N.does.opening nodes.old }
     ensures state { OnOk result
@@ -108,11 +104,7 @@ fn pass_all<N: Node>(
 }
 
 // With each part's end: its last records go through the parts behind it.
-fn finish_all<N: Node>(
-    nodes: &mut [N],
-    ended: &mut [bool],
-    out: &mut Sends,
-) -> Result<(), NoMemory>
+fn finish_all<N: Node>(nodes: &mut [N], ended: &mut [bool], out: &mut Sends) -> Result<(), NoMemory>
     requires flags { length nodes.old ≤ length ended.old }
     ensures kind { map N.does.opening nodes.new ≡ map N.does.opening nodes.old }
     ensures sends { OnOk result (out.new ≡ passed_last N.does (parts nodes.old ended.old) out.old) }

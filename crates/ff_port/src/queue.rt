@@ -57,12 +57,14 @@ impl<T> PlainQueue<T> {
         self.inside.len()
     }
 
+    /// Whether no message is inside.
     pub fn is_empty(&self) -> bool
         ensures { IsTrue result ↔ (self.now.inside ≡ []) }
     {
         self.inside.is_empty()
     }
 
+    /// Whether no slot is free.
     pub fn is_full(&self) -> bool
         ensures { IsTrue result ↔ (length self.now.inside ≡ self.now.cap) }
     {

@@ -24,7 +24,6 @@ IsNew-operation row args o is fit =
 pub IsNew-read_op : (name : List ℕ) (args : List Arg) (o : OpState) → read_op name args ≡ Ok o → IsNew o
 IsNew-read_op name args o e =
     let h = IsReadFrom-read_op name args o e in
-    let fit = subst (λ (given : List Arg). AllFit given (kinds_of o.row)) h.given h.fit in
-    let made : ◌≡◌ {A = Result OpState OpFault} (Ok o) (Ok (operation o.row args)) = sym e ∙ read_op-AllFit name o.row args h.named fit in
+    let made : ◌≡◌ {A = Result OpState OpFault} (Ok o) (Ok (operation o.row args)) = sym e ∙ read_op-AllFit name o.row args h.named h.fit in
     let is : o ≡ operation o.row args = cc in
-    IsNew-operation o.row args o is fit
+    IsNew-operation o.row args o is h.fit
