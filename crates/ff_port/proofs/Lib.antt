@@ -1,3 +1,3 @@
 mod Openings
 mod Puttings
-mod Rows
+pub mod Rows

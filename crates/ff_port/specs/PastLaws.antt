@@ -1,5 +1,5 @@
 -- A past is longer than what came before its newest element.
-use Rattle.std.specs.Prelude.{ℕ, ◌≤◌, ◌∷◌, [], length}
+use Rattle.std.specs.Prelude.{◌≤◌, ◌∷◌, [], length}
 use Rattle.std.proofs.Common.{arith, length-append}
 use Rattle.ff_port.specs.declared.past.Last.{Last}
 use Rattle.ff_port.specs.declared.past.Last.TheVariants.{Nothing, Noted}

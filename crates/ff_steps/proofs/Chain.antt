@@ -5,17 +5,17 @@ use Rattle.ff_rec.specs.Lines.{Rec}
 use Rattle.ff_rec.specs.Streams.{at, carried, closed, unaborted, GoesOn}
 use Rattle.ff_node.specs.Behaviour.{Behaviour, node, sent_from, pipeline}
 use Rattle.ff_node.specs.Fits.{FitsStage}
-use Rattle.ff_node.specs.Runs.{Message, HasRun, AllGoOn, HasOuts, FitsWhole}
+use Rattle.ff_node.specs.Runs.{Message, AllGoOn, HasOuts, FitsWhole}
 use Rattle.ff_port.specs.declared.answers.End.TheVariants.{Eos}
 use Rattle.ff_unit.specs.Stage.{StageState, opened_stage, opening_stage}
-use Rattle.ff_unit.specs.StageSteps.{StageStep}
+use Rattle.ff_unit.specs.StageUnit.{stage_does}
+use Rattle.ff_unit.specs.Units.{IsUnit, Ran}
 use Rattle.ff_steps.proofs.MessageLists.{GoesOn-front, closed-front}
-use Rattle.ff_steps.proofs.StageFacts.{StageFacts}
 
 -- these stages, from number `i` on, take from stream `i` and put on stream `i + 1`
 abbrev pub ChainRuns : {N : Type 0} → Behaviour N → (ℕ → List Message) → (ℕ → List Message) → List (StageState N) → ℕ → Type 0
 ChainRuns b got put [] i = Unit {0}
-ChainRuns b got put (u ∷ us) i = HasRun (StageStep b) (opening_stage b u) 1 1 u (got i ∷ []) (put (suc i) ∷ []) × ChainRuns b got put us (suc i)
+ChainRuns b got put (u ∷ us) i = Ran (stage_does b) u (got i ∷ []) (put (suc i) ∷ []) × ChainRuns b got put us (suc i)
 
 -- they run these nodes
 abbrev pub RunNodes : {N : Type 0} → Behaviour N → Bool → List (StageState N) → List N → Type 0
@@ -57,9 +57,9 @@ module _ {N : Type 0} (b : Behaviour N) (keeps : Bool) where
   node-same : (u : StageState N) (o : N) → opening_stage b u ≡ opened_stage b o keeps → (xs : List Rec) → node b u.node xs ≡ node b o xs
   node-same u o e xs = ap (λ s. sent_from b s.node xs) e
 
-  module _ (facts : StageFacts b) (got put : ℕ → List Message) (inside : (i : ℕ) → (back : List Message) × (put i ≡ got i ++ back)) where
+  module _ (facts : IsUnit (stage_does b)) (got put : ℕ → List Message) (inside : (i : ℕ) → (back : List Message) × (put i ≡ got i ++ back)) where
     -- one stage whose in goes on to these records
-    GoesOn-unit : (u : StageState N) (o : N) (i : ℕ) → opening_stage b u ≡ opened_stage b o keeps → HasRun (StageStep b) (opening_stage b u) 1 1 u (got i ∷ []) (put (suc i) ∷ [])
+    GoesOn-unit : (u : StageState N) (o : N) (i : ℕ) → opening_stage b u ≡ opened_stage b o keeps → Ran (stage_does b) u (got i ∷ []) (put (suc i) ∷ [])
         → (xs : List Rec) → GoesOn (unaborted (put i)) (carried xs) → GoesOn (unaborted (put (suc i))) (carried (node b o xs))
     GoesOn-unit u o i made run xs g = from (facts.begins u (got i ∷ []) (put (suc i) ∷ []) run (carried xs ∷ []) (taken, tt))
       where
@@ -79,7 +79,7 @@ module _ {N : Type 0} (b : Behaviour N) (keeps : Bool) where
         GoesOn-chain us os (suc i) n (tail-same made) (omega (arith, e)) runs.1 (node b o xs) (GoesOn-unit u o i (head-same made) runs.0 xs g)
 
     -- one stage that has ended with its in
-    pub closed-unit : (u : StageState N) (o : N) (i : ℕ) → opening_stage b u ≡ opened_stage b o keeps → HasRun (StageStep b) (opening_stage b u) 1 1 u (got i ∷ []) (put (suc i) ∷ [])
+    pub closed-unit : (u : StageState N) (o : N) (i : ℕ) → opening_stage b u ≡ opened_stage b o keeps → Ran (stage_does b) u (got i ∷ []) (put (suc i) ∷ [])
         → HasEnded u → (xs : List Rec) → put i ≡ closed (carried xs) → (got i ≡ closed (carried xs)) × (put (suc i) ≡ closed (carried (node b o xs)))
     closed-unit u o i made run ended xs e = from (facts.whole u (got i ∷ []) (put (suc i) ∷ []) run ended.0 ended.1)
       where

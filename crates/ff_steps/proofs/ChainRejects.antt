@@ -1,5 +1,5 @@
 -- What stages one behind the other rejected, once they have ended.
-use Rattle.std.proofs.Common.{◌≡◌, ℕ, suc, ◌+◌, ◌-◌, ◌^◌, min, Bool, true, List, [], ◌∷◌, ◌++◌, length, flat_map, refl, sym, ap, ◌∙◌, arith}
+use Rattle.std.proofs.Common.{◌≡◌, ℕ, suc, ◌+◌, ◌-◌, ◌^◌, min, Bool, true, List, [], ◌∷◌, ◌++◌, length, flat_map, refl, sym, ap, ap₂, ◌∙◌, arith}
 use Rattle.std.proofs.lemmas.List.{append-nil, length-append}
 use Rattle.std.specs.List.{AllByRecursion}
 use Rattle.ff_rec.specs.Lines.{Rec}
@@ -7,14 +7,13 @@ use Rattle.ff_rec.specs.Streams.{items, carried, closed}
 use Rattle.ff_rec.specs.Weights.{weigh, Same}
 use Rattle.ff_rec.proofs.WeightLaws.{weigh-append, Same-refl}
 use Rattle.ff_node.specs.Behaviour.{Behaviour, node, node_rejected, rejected_from, node_rejected_count, pipeline_rejected}
-use Rattle.ff_node.specs.Fits.{FitsRejects}
-use Rattle.ff_node.specs.Runs.{Message, HasRun}
+use Rattle.ff_node.specs.Runs.{Message}
 use Rattle.ff_node.specs.Sends.{counted}
 use Rattle.ff_unit.specs.Stage.{StageState, opened_stage, opening_stage}
-use Rattle.ff_unit.specs.StageSteps.{StageStep}
+use Rattle.ff_unit.specs.StageUnit.{stage_does}
+use Rattle.ff_unit.specs.Units.{IsUnit, Ran, HasRejects}
 use Rattle.ff_steps.proofs.Chain.{ChainRuns, RunNodes, HasEnded, head-same, tail-same, cons≢nil, closed-unit}
 use Rattle.ff_steps.proofs.MessageLists.{items-closed}
-use Rattle.ff_steps.proofs.StageFacts.{StageFacts}
 
 -- how many records they rejected
 abbrev pub rejects_of : {N : Type 0} → List (StageState N) → ℕ
@@ -29,12 +28,12 @@ module _ {N : Type 0} (b : Behaviour N) (keeps : Bool) where
   node_rejected-same : (u : StageState N) (o : N) → opening_stage b u ≡ opened_stage b o keeps → (xs : List Rec) → node_rejected b u.node xs ≡ node_rejected b o xs
   node_rejected-same u o e xs = ap (λ s. rejected_from b s.node xs) e
 
-  module _ (facts : StageFacts b) (got put : ℕ → List Message) (inside : (i : ℕ) → (back : List Message) × (put i ≡ got i ++ back)) where
+  module _ (facts : IsUnit (stage_does b)) (got put : ℕ → List Message) (inside : (i : ℕ) → (back : List Message) × (put i ≡ got i ++ back)) where
     -- what one of them rejected
-    rejects-unit : (u : StageState N) (o : N) (i : ℕ) → opening_stage b u ≡ opened_stage b o keeps → HasRun (StageStep b) (opening_stage b u) 1 1 u (got i ∷ []) (put (suc i) ∷ [])
+    rejects-unit : (u : StageState N) (o : N) (i : ℕ) → opening_stage b u ≡ opened_stage b o keeps → Ran (stage_does b) u (got i ∷ []) (put (suc i) ∷ [])
         → HasEnded u → (xs : List Rec) → put i ≡ closed (carried xs)
-        → (taken : List Rec) × (u.rejects ≡ counted (node_rejected_count b o xs)) × (keeps ≡ true → taken ++ u.kept ≡ node_rejected b o xs)
-    rejects-unit u o i made run ended xs c = from (facts.rejects u (got i ∷ []) (put (suc i) ∷ []) run ended.0 ended.1)
+        → (u.rejects ≡ counted (node_rejected_count b o xs)) × (keeps ≡ true → u.taken ++ u.kept ≡ node_rejected b o xs)
+    rejects-unit u o i made run ended xs c = from (facts.rejects_are u (got i ∷ []) (put (suc i) ∷ []) run ended.0 ended.1)
       where
         all : items (got i) ≡ xs
         all = ap items (closed-unit b keeps facts got put inside u o i made run ended xs c).0 ∙ items-closed xs
@@ -42,49 +41,43 @@ module _ {N : Type 0} (b : Behaviour N) (keeps : Bool) where
         same : node_rejected b u.node (items (got i)) ≡ node_rejected b o xs
         same = ap (node_rejected b u.node) all ∙ node_rejected-same u o made xs
 
-        from : ((taken : List Rec) × FitsRejects b u.node u.keeps (items (got i)) u.rejects taken u.kept)
-            → (taken : List Rec) × (u.rejects ≡ counted (node_rejected_count b o xs)) × (keeps ≡ true → taken ++ u.kept ≡ node_rejected b o xs)
-        from r = (r.0, r.1.number_is ∙ ap (λ l. counted (length l)) same, λ k. r.1.kept (ap (λ s. s.keeps) made ∙ k) ∙ same)
+        from : HasRejects (stage_does b) u (got i ∷ []) → (u.rejects ≡ counted (node_rejected_count b o xs)) × (keeps ≡ true → u.taken ++ u.kept ≡ node_rejected b o xs)
+        from r = (r.number_is ∙ ap (λ l. counted (length l)) same, λ k. r.kept_are (ap (λ s. s.keeps) made ∙ k) ∙ same)
 
     -- what all of them hold, behind what was taken out
     pub kept-chain : (us : List (StageState N)) (os : List N) (i : ℕ) → RunNodes b keeps us os → ChainRuns b got put us i
         → AllByRecursion HasEnded us → keeps ≡ true → (xs : List Rec) → put i ≡ closed (carried xs)
-        → (taken : List Rec) × Same (taken ++ flat_map (λ u. u.kept) us) (pipeline_rejected b os xs)
-    kept-chain [] [] i made runs ended k xs c = ([], Same-refl [])
+        → Same (flat_map (λ u. u.taken) us ++ flat_map (λ u. u.kept) us) (pipeline_rejected b os xs)
+    kept-chain [] [] i made runs ended k xs c = Same-refl []
     kept-chain [] (o ∷ os) i made runs ended k xs c = absurd (cons≢nil (sym made))
     kept-chain (u ∷ us) [] i made runs ended k xs c = absurd (cons≢nil made)
-    kept-chain (u ∷ us) (o ∷ os) i made runs ended k xs c = join (rejects-unit u o i (head-same made) runs.0 ended.0 xs c)
+    kept-chain (u ∷ us) (o ∷ os) i made runs ended k xs c = join ((rejects-unit u o i (head-same made) runs.0 ended.0 xs c).1 k)
         (kept-chain us os (suc i) (tail-same made) runs.1 ended.1 k (node b o xs) (closed-unit b keeps facts got put inside u o i (head-same made) runs.0 ended.0 xs c).1)
       where
-        join : ((taken : List Rec) × (u.rejects ≡ counted (node_rejected_count b o xs)) × (keeps ≡ true → taken ++ u.kept ≡ node_rejected b o xs))
-            → ((taken : List Rec) × Same (taken ++ flat_map (λ v. v.kept) us) (pipeline_rejected b os (node b o xs)))
-            → (taken : List Rec) × Same (taken ++ (u.kept ++ flat_map (λ v. v.kept) us)) (node_rejected b o xs ++ pipeline_rejected b os (node b o xs))
-        join r rest = (
-          r.0 ++ rest.0,
-          record {
-            by = λ h. omega (
-              arith,
-              weigh-append h (r.0 ++ rest.0) (u.kept ++ flat_map (λ v. v.kept) us),
-              weigh-append h r.0 rest.0,
-              weigh-append h u.kept (flat_map (λ v. v.kept) us),
-              weigh-append h (node_rejected b o xs) (pipeline_rejected b os (node b o xs)),
-              weigh-append h rest.0 (flat_map (λ v. v.kept) us),
-              rest.1.by h,
-              weigh-append h r.0 u.kept,
-              ap (weigh h) (r.2 k),
-            );
-          },
-        )
+        join : u.taken ++ u.kept ≡ node_rejected b o xs
+            → Same (flat_map (λ v. v.taken) us ++ flat_map (λ v. v.kept) us) (pipeline_rejected b os (node b o xs))
+            → Same ((u.taken ++ flat_map (λ v. v.taken) us) ++ (u.kept ++ flat_map (λ v. v.kept) us)) (node_rejected b o xs ++ pipeline_rejected b os (node b o xs))
+        join here rest = record {
+          by = λ h. omega (
+            arith,
+            weigh-append h (u.taken ++ flat_map (λ v. v.taken) us) (u.kept ++ flat_map (λ v. v.kept) us),
+            weigh-append h u.taken (flat_map (λ v. v.taken) us),
+            weigh-append h u.kept (flat_map (λ v. v.kept) us),
+            weigh-append h (node_rejected b o xs) (pipeline_rejected b os (node b o xs)),
+            weigh-append h (flat_map (λ v. v.taken) us) (flat_map (λ v. v.kept) us),
+            rest.by h,
+            weigh-append h u.taken u.kept,
+            ap (weigh h) here,
+          );
+        }
 
     -- of one stage in their order
     pub kept-one : (u : StageState N) (o : N) (i : ℕ) → RunNodes b keeps (u ∷ []) (o ∷ []) → ChainRuns b got put (u ∷ []) i
         → AllByRecursion HasEnded (u ∷ []) → keeps ≡ true → (xs : List Rec) → put i ≡ closed (carried xs)
-        → (taken : List Rec) × (taken ++ flat_map (λ v. v.kept) (u ∷ []) ≡ pipeline_rejected b (o ∷ []) xs)
-    kept-one u o i made runs ended k xs c = from (rejects-unit u o i (head-same made) runs.0 ended.0 xs c)
-      where
-        from : ((taken : List Rec) × (u.rejects ≡ counted (node_rejected_count b o xs)) × (keeps ≡ true → taken ++ u.kept ≡ node_rejected b o xs))
-            → (taken : List Rec) × (taken ++ (u.kept ++ []) ≡ node_rejected b o xs ++ [])
-        from r = (r.0, ap (λ l. r.0 ++ l) (append-nil u.kept) ∙ r.2 k ∙ sym (append-nil (node_rejected b o xs)))
+        → (u.taken ++ []) ++ (u.kept ++ []) ≡ pipeline_rejected b (o ∷ []) xs
+    kept-one u o i made runs ended k xs c =
+        ap₂ (λ l m. l ++ m) (append-nil u.taken) (append-nil u.kept)
+        ∙ (rejects-unit u o i (head-same made) runs.0 ended.0 xs c).1 k ∙ sym (append-nil (node_rejected b o xs))
 
     -- how many all of them rejected
     pub rejects-chain : (us : List (StageState N)) (os : List N) (i : ℕ) → RunNodes b keeps us os → ChainRuns b got put us i
@@ -94,7 +87,7 @@ module _ {N : Type 0} (b : Behaviour N) (keeps : Bool) where
     rejects-chain [] (o ∷ os) i made runs ended xs c = absurd (cons≢nil (sym made))
     rejects-chain (u ∷ us) [] i made runs ended xs c = absurd (cons≢nil made)
     rejects-chain (u ∷ us) (o ∷ os) i made runs ended xs c =
-        ap (λ n. counted (n + rejects_of us)) (rejects-unit u o i (head-same made) runs.0 ended.0 xs c).1
+        ap (λ n. counted (n + rejects_of us)) (rejects-unit u o i (head-same made) runs.0 ended.0 xs c).0
         ∙ min-sum (node_rejected_count b o xs) (rejects_of us) (length (pipeline_rejected b os (node b o xs))) (2 ^ 64 - 1)
         (rejects-chain us os (suc i) (tail-same made) runs.1 ended.1 (node b o xs) (closed-unit b keeps facts got put inside u o i (head-same made) runs.0 ended.0 xs c).1)
         ∙ ap counted (sym (length-append (node_rejected b o xs) (pipeline_rejected b os (node b o xs))))

@@ -1,36 +1,53 @@
--- A step of a party of a line, over its fields, is a step of the core.
-use Rattle.std.proofs.Common.{◌≡◌, ℕ, suc, ◌<◌, List, [], ◌∷◌, ◌++◌, length, map, slice_index, slice_index_or, slice_set, refl, sym, ap, ◌∙◌, subst, get_or-set_same, length-set}
-use Rattle.std.proofs.lemmas.List.{nil_from_length}
+-- A step of a party, over the parts of a core, is a step of the core.
+use Rattle.std.proofs.Common.{◌≡◌, ◌≢◌, ℕ, zero, suc, ◌+◌, ◌<◌, List, [], ◌∷◌, ◌++◌, length, map, slice_index, slice_index_or, slice_set, refl, sym, ap, ◌∙◌, subst, arith, get_or-set_same, length-set, length-append}
+use Rattle.std.proofs.Math.Seq.{map-set_same}
+use Rattle.std.proofs.lemmas.List.{get_or_append_left}
 use Rattle.ff_rec.specs.Lines.{Rec}
-use Rattle.ff_node.specs.Behaviour.{Behaviour}
-use Rattle.ff_node.specs.Runs.{Act, Took, Gave, Refused, Idle, Told, Handed, took, gave}
+use Rattle.ff_node.specs.Runs.{Message, Act, Took, Gave, Refused, Idle, Told, Handed, took, gave}
 use Rattle.ff_port.specs.Queues.{Queue, put_of, room_of}
-use Rattle.ff_unit.specs.Stage.{StageState}
-use Rattle.ff_steps.specs.Core.{CoreState, party, edge, gots_of, puts_of, IsSound}
-use Rattle.ff_steps.specs.Events.{CoreStep, Stalls}
-use Rattle.ff_steps.specs.Links.{edge_at}
-use Rattle.ff_steps.specs.Moves.{UnitMoves, FeederMoves, DrainerMoves}
-use Rattle.ff_steps.specs.Parties.{Party, Feeder, Drainer, AsUnit, AsFeeder, AsDrainer, PartyStep, FeederStep, DrainerStep}
-use Rattle.ff_steps.specs.Wiring.{Row, row_at, line_rows, line_in, line_out}
-use Rattle.ff_steps.proofs.LineWiring.{unit_row, feeder_row, drainer_row, row_at-unit, row_at-feeder, row_at-drainer}
-use Rattle.ff_steps.proofs.LineRuns.{length-units}
-use Rattle.ff_steps.proofs.LineSteps.{others-unit, others-feeder, others-drainer, Stalls-unit, Stalls-feeder, Stalls-drainer}
-use Rattle.ff_steps.proofs.PartyAt.{length-parties, party-unit, party-feeder, party-drainer}
+use Rattle.ff_unit.specs.Units.{Doing, IsUnit, Ran}
+use Rattle.ff_steps.specs.Core.{CoreState, parties, party, gots_of, puts_of, IsSound}
+use Rattle.ff_steps.specs.Events.{CoreStep, Stalls, known_at}
+use Rattle.ff_steps.specs.Links.{edge_at, gots_at, puts_at, known_over}
+use Rattle.ff_steps.specs.Moves.{UnitMoves, FeederMoves, DrainerMoves, feeder_of, drainer_of}
+use Rattle.ff_steps.specs.Parties.{Party, Feeder, Drainer, AsUnit, AsFeeder, AsDrainer, PartyStep, PartyRan, FeederStep, DrainerStep}
+use Rattle.ff_steps.specs.Seen.{core_of}
+use Rattle.ff_steps.specs.Wiring.{Row, row_at, IsWired, IsPortRow, all_rows, feeder_row, drainer_row}
+use Rattle.ff_steps.specs.declared.drainer.Drainer.{Drainer as Draining}
+use Rattle.ff_steps.specs.declared.feeder.Feeder.{Feeder as Feeding}
 use Rattle.ff_steps.proofs.EdgesKept.{EdgesKeep-rest, EdgesKeep-to, EdgesKeep-from}
-
--- what a party's ports saw, by its row
-gots_of-row : {N : Type 0} (c : CoreState N) (p : ℕ) (row : Row) → row_at c.rows p ≡ row → gots_of c p ≡ map (λ e. (edge c e).got) row.ins
-gots_of-row c p row is = ap (λ (r : Row). map (λ e. (edge c e).got) r.ins) is
-
-puts_of-row : {N : Type 0} (c : CoreState N) (p : ℕ) (row : Row) → row_at c.rows p ≡ row → puts_of c p ≡ map (λ e. put_of (edge c e)) row.outs
-puts_of-row c p row is = ap (λ (r : Row). map (λ e. put_of (edge c e)) r.outs) is
+use Rattle.ff_steps.proofs.Others.{others-unit, others-feeder, others-drainer, Stalls-unit, Stalls-feeder, Stalls-drainer}
+use Rattle.ff_steps.proofs.PartyAt.{length-parties, party-unit, party-feeder, party-drainer}
 
 -- a step of the parties, told of the parties that stand at `p`
-pub PartyStep-at : {N : Type 0} (b : Behaviour N) (act : Act) {q r x y : Party N} → q ≡ x → r ≡ y → PartyStep b x act y → PartyStep b q act r
+pub PartyStep-at : {U : Type 0} (b : Doing U) (act : Act) {q r x y : Party U} → q ≡ x → r ≡ y → PartyStep b x act y → PartyStep b q act r
 PartyStep-at b act {q} {r} {x} {y} old new step = subst (λ z. PartyStep b z act r) (sym old) (subst (λ z. PartyStep b x act z) (sym new) step)
 
-Stalls-at : {N : Type 0} (c : CoreState N) (p : ℕ) (act : Act) {q r x y : Party N} → q ≡ x → r ≡ y → Stalls c p x y act → Stalls c p q r act
-Stalls-at c p act {q} {r} {x} {y} old new step = subst (λ z. Stalls c p z r act) (sym old) (subst (λ z. Stalls c p x z act) (sym new) step)
+Stalls-at : {U : Type 0} (b : Doing U) (c c' : CoreState U) (p : ℕ) (act : Act) {q r x y : Party U} → q ≡ x → r ≡ y → Stalls b c c' p x y act → Stalls b c c' p q r act
+Stalls-at b c c' p act {q} {r} {x} {y} old new step = subst (λ z. Stalls b c c' p z r act) (sym old) (subst (λ z. Stalls b c c' p x z act) (sym new) step)
+
+-- what a party's ports saw, by its row
+gots_of-row : {U : Type 0} (c : CoreState U) (p : ℕ) (row : Row) → row_at c.rows p ≡ row → gots_of c p ≡ gots_at c.edges row.ins
+gots_of-row c p row is = ap (λ (r : Row). gots_at c.edges r.ins) is
+
+puts_of-row : {U : Type 0} (c : CoreState U) (p : ℕ) (row : Row) → row_at c.rows p ≡ row → puts_of c p ≡ puts_at c.edges row.outs
+puts_of-row c p row is = ap (λ (r : Row). puts_at c.edges r.outs) is
+
+-- the rows behind those of the units
+row-behind : (rows : List Row) (p i : ℕ) → p ≡ length rows + i → row_at (all_rows rows) p ≡ row_at (feeder_row ∷ drainer_row ∷ []) i
+row-behind [] p i e = let same : p ≡ i = omega (arith, e) in ap (λ n. row_at (feeder_row ∷ drainer_row ∷ []) n) same
+row-behind (r ∷ rows) zero i e = absurd (omega (arith, e))
+row-behind (r ∷ rows) (suc p) i e = row-behind rows p i (omega (arith, e))
+
+-- the row of one party keeps no edge twice
+pub IsPortRow-wired : (rows : List Row) (edges p : ℕ) → IsWired rows edges → p < length rows → IsPortRow (row_at rows p) edges
+IsPortRow-wired rows edges p wired low = record {
+  ins_within = λ i i_low. wired.ins_within p i low i_low;
+  outs_within = λ i i_low. wired.outs_within p i low i_low;
+  ins_differ = λ i j i_low j_low same. (wired.one_reader p p i j low low i_low j_low same).1;
+  outs_differ = λ i j i_low j_low same. (wired.one_writer p p i j low low i_low j_low same).1;
+  apart = λ i j i_low j_low same. wired.no_loop p i j low i_low j_low same;
+}
 
 -- the feeder takes nothing, and the drainer gives nothing
 took-feeder : (f : Feeder) (act : Act) (g : Feeder) → FeederStep f act g → [] ≡ took act []
@@ -49,99 +66,149 @@ gave-drainer d Idle e step = refl
 gave-drainer d Told e step = refl
 gave-drainer d (Handed x) e step = refl
 
-module _ {N : Type 0} (b : Behaviour N) (c : CoreState N) (rows : c.rows ≡ line_rows (length c.nodes)) (sound : IsSound b c) where
-  -- unit `p` steps
-  pub CoreStep-unit : (p : ℕ) (units' : List (StageState N)) (edges' : List (Queue Rec)) → p < length c.units
-      → UnitMoves b p (line_in p) (line_out (length c.nodes) p) c.units c.edges units' edges'
-      → CoreStep b p c (record c { units = units'; edges = edges' })
-  CoreStep-unit p units' edges' low moves = record {
-    act = moves.act;
-    steps = PartyStep-at b moves.act old_is new_is moves.steps;
-    takes = gots_of-row c' p (unit_row (length c.nodes) p) row ∙ moves.takes ∙ ap (took moves.act) (sym (gots_of-row c p (unit_row (length c.nodes) p) row));
-    gives = puts_of-row c' p (unit_row (length c.nodes) p) row ∙ moves.gives ∙ ap (gave moves.act) (sym (puts_of-row c p (unit_row (length c.nodes) p) row));
-    stalls = Stalls-at c p moves.act old_is new_is (Stalls-unit b c p (length (edge_at c.edges (line_in p)).inside) (room_of (edge_at c.edges (line_out (length c.nodes) p))) _ _ moves.old moves.new moves.act moves.answer
-        (λ none. ap (λ (r : Row). (edge c (slice_index r.ins 0)).inside) row ∙ nil_from_length _ none)
-        (λ none. ap (λ (r : Row). room_of (edge c (slice_index r.outs 0))) row ∙ none)
-        moves.steps moves.answers moves.waits);
-    edges = EdgesKeep-rest p c c' (line_in p) (line_out (length c.nodes) p) row moves.rest;
-    others = λ q q_low ne. ap (λ us. slice_index_or (map (λ u. AsUnit u) us ++ AsFeeder c.feeder ∷ AsDrainer c.drainer ∷ []) q (AsDrainer c.drainer)) moves.is
-        ∙ others-unit c.units (AsFeeder c.feeder ∷ AsDrainer c.drainer ∷ []) p q moves.new (AsDrainer c.drainer) ne;
-    number = ap length moves.is ∙ length-set c.units p moves.new;
-    made = (refl, refl, refl, refl, refl);
-  }
-    where
-      c' : CoreState N
-      c' = record c { units = units'; edges = edges' }
+module _ {U : Type 0} (b : Doing U) (rows : List Row) (edges : List (Queue Rec)) (units : List U) (f : Feeding) (d : Draining) where
+  abbrev c : CoreState U
+  c = core_of b rows edges units f d
 
-      row : row_at c.rows p ≡ unit_row (length c.nodes) p
-      row = ap (λ rs. row_at rs p) rows ∙ row_at-unit (length c.nodes) p (subst (λ n. p < n) (length-units b c rows sound) low)
+  module _ (sound : IsSound b (core_of b rows edges units f d)) where
+    pub length-rows : length rows ≡ length units
+    length-rows = omega (arith, sound.rows_are, length-parties c, length-append rows (feeder_row ∷ drainer_row ∷ []))
 
-      old_is : party c p ≡ AsUnit moves.old
-      old_is = party-unit c p moves.old low ∙ ap (λ u. AsUnit u) (sym moves.was)
+    -- the rows of the units, the feeder and the drainer
+    pub row-unit : (p : ℕ) → p < length units → row_at (all_rows rows) p ≡ row_at rows p
+    row-unit p low = get_or_append_left rows (feeder_row ∷ drainer_row ∷ []) (record { ins = []; outs = [] }) p (subst (λ n. p < n) (sym length-rows) low)
 
-      new_is : party c' p ≡ AsUnit moves.new
-      new_is = party-unit c' p moves.new (subst (λ us. p < length us) (sym moves.is) (subst (λ n. p < n) (sym (length-set c.units p moves.new)) low))
-          ∙ ap (λ u. AsUnit u) (ap (λ us. slice_index_or us p moves.new) moves.is ∙ get_or-set_same c.units p moves.new moves.new low)
+    pub row-feeder : row_at (all_rows rows) (length units) ≡ feeder_row
+    row-feeder = row-behind rows (length units) 0 (omega (arith, length-rows))
 
-  -- the feeder steps
-  pub CoreStep-feeder : (f : Feeder) (edges' : List (Queue Rec)) → 0 < length c.edges
-      → FeederMoves c.feeder (edge_at c.edges 0) f (edge_at edges' 0) → edges' ≡ slice_set c.edges 0 (edge_at edges' 0)
-      → CoreStep b (length c.nodes) c (record c { feeder = f; edges = edges' })
-  CoreStep-feeder f edges' some moves is = record {
-    act = moves.act;
-    steps = PartyStep-at b moves.act old_is new_is moves.steps;
-    takes = gots_of-row c' p feeder_row row ∙ took-feeder c.feeder moves.act f moves.steps ∙ ap (took moves.act) (sym (gots_of-row c p feeder_row row));
-    gives = puts_of-row c' p feeder_row row ∙ moves.gives ∙ ap (gave moves.act) (sym (puts_of-row c p feeder_row row));
-    stalls = Stalls-at c p moves.act old_is new_is (Stalls-feeder c p c.feeder f moves.act _ (λ none. ap (λ (r : Row). room_of (edge c (slice_index r.outs 0))) row ∙ none) moves.stalls);
-    edges = EdgesKeep-to p c c' 0 (edge_at edges' 0) row some is moves.got moves.cap;
-    others = λ q q_low ne. others-feeder c.units (AsFeeder f) (AsFeeder c.feeder) (AsDrainer c.drainer ∷ []) q (AsDrainer c.drainer) (λ e. ne (e ∙ length-units b c rows sound));
-    number = refl;
-    made = (refl, refl, refl, refl, refl);
-  }
-    where
-      p : ℕ
-      p = length c.nodes
+    pub row-drainer : row_at (all_rows rows) (suc (length units)) ≡ drainer_row
+    row-drainer = row-behind rows (suc (length units)) 1 (omega (arith, length-rows))
 
-      c' : CoreState N
-      c' = record c { feeder = f; edges = edges' }
+    low-row : (p : ℕ) → p < length (parties c) → p < length c.rows
+    low-row p low = subst (λ n. p < n) (sym sound.rows_are) low
 
-      row : row_at c.rows p ≡ feeder_row
-      row = ap (λ rs. row_at rs p) rows ∙ row_at-feeder (length c.nodes)
+    -- the feeder and the drainer have their edges
+    pub some-edges : (0 < length edges) × (1 < length edges)
+    some-edges = (
+      subst (λ (r : Row). (i : ℕ) → i < length r.outs → slice_index r.outs i < length edges) row-feeder
+      (λ i i_low. sound.wired.outs_within (length units) i (low-row (length units) (omega (arith, length-parties c))) i_low) 0 (omega arith),
+      subst (λ (r : Row). (i : ℕ) → i < length r.ins → slice_index r.ins i < length edges) row-drainer
+      (λ i i_low. sound.wired.ins_within (suc (length units)) i (low-row (suc (length units)) (omega (arith, length-parties c))) i_low) 0 (omega arith),
+    )
 
-      old_is : party c p ≡ AsFeeder c.feeder
-      old_is = party-feeder c p (length-units b c rows sound)
+    -- a unit has its ports and its run at its row
+    pub IsPortRow-unit : (p : ℕ) → p < length units → IsPortRow (row_at rows p) (length edges)
+    IsPortRow-unit p low =
+        subst (λ r. IsPortRow r (length edges)) (row-unit p low)
+        (IsPortRow-wired (all_rows rows) (length edges) p sound.wired (low-row p (omega (arith, low, length-parties c))))
 
-      new_is : party c' p ≡ AsFeeder f
-      new_is = party-feeder c' p (length-units b c rows sound)
+    pub ran-unit : (p : ℕ) → p < length units → (u : U) → u ≡ slice_index_or units p u
+        → Ran b u (gots_at edges (row_at rows p).ins) (puts_at edges (row_at rows p).outs)
+    ran-unit p low u is =
+        subst (λ (r : Row). Ran b u (gots_at edges r.ins) (puts_at edges r.outs)) (row-unit p low)
+        (subst (λ q. PartyRan b f.input q (gots_of c p) (puts_of c p)) (party-unit c p u low ∙ ap (λ x. AsUnit x) (sym is))
+        (sound.ran p (omega (arith, low, length-parties c))))
 
-  -- the drainer steps
-  pub CoreStep-drainer : (d : Drainer) (edges' : List (Queue Rec)) → 1 < length c.edges
-      → DrainerMoves c.drainer (edge_at c.edges 1) d (edge_at edges' 1) → edges' ≡ slice_set c.edges 1 (edge_at edges' 1)
-      → CoreStep b (suc (length c.nodes)) c (record c { drainer = d; edges = edges' })
-  CoreStep-drainer d edges' some moves is = record {
-    act = moves.act;
-    steps = PartyStep-at b moves.act old_is new_is moves.steps;
-    takes = gots_of-row c' p drainer_row row ∙ moves.takes ∙ ap (took moves.act) (sym (gots_of-row c p drainer_row row));
-    gives = puts_of-row c' p drainer_row row ∙ gave-drainer c.drainer moves.act d moves.steps ∙ ap (gave moves.act) (sym (puts_of-row c p drainer_row row));
-    stalls = Stalls-at c p moves.act old_is new_is (Stalls-drainer c p c.drainer d moves.act _ (λ none. ap (λ (r : Row). (edge c (slice_index r.ins 0)).inside) row ∙ none) moves.stalls);
-    edges = EdgesKeep-from p c c' 1 (edge_at edges' 1) row some is moves.put moves.cap;
-    others = λ q q_low ne. others-drainer c.units (AsFeeder c.feeder) (AsDrainer d) (AsDrainer c.drainer) q (subst (λ n. q < n) (length-parties c) q_low)
-        (λ e. ne (e ∙ ap suc (length-units b c rows sound)));
-    number = refl;
-    made = (refl, refl, refl, refl, refl);
-  }
-    where
-      p : ℕ
-      p = suc (length c.nodes)
+    -- so has the feeder, and the drainer
+    pub ran-feeder : PartyRan b f.input (AsFeeder (feeder_of f)) [] (put_of (edge_at edges 0) ∷ [])
+    ran-feeder =
+        subst (λ (r : Row). PartyRan b f.input (AsFeeder (feeder_of f)) (gots_at edges r.ins) (puts_at edges r.outs)) row-feeder
+        (subst (λ q. PartyRan b f.input q (gots_of c (length units)) (puts_of c (length units))) (party-feeder c (length units) refl)
+        (sound.ran (length units) (omega (arith, length-parties c))))
 
-      c' : CoreState N
-      c' = record c { drainer = d; edges = edges' }
+    -- unit `p` steps
+    pub CoreStep-unit : IsUnit b → (p : ℕ) (units' : List U) (edges' : List (Queue Rec)) → p < length units
+        → UnitMoves b p (row_at rows p) units edges units' edges' → CoreStep b p c (core_of b rows edges' units' f d)
+    CoreStep-unit laws p units' edges' low moves₀ = record {
+      act = moves.act;
+      steps = PartyStep-at b moves.act old_is new_is moves.steps;
+      takes = moves.takes;
+      gives = moves.gives;
+      stalls = Stalls-at b c c' p moves.act old_is new_is (Stalls-unit b c c' p moves.old moves.new moves.act moves.answer moves.answers moves.waits);
+      edges = EdgesKeep-rest p c c' moves.rest;
+      others = λ q q_low ne. ap (λ us. slice_index_or (map (λ u. AsUnit u) us ++ AsFeeder c.feeder ∷ AsDrainer c.drainer ∷ []) q (AsDrainer c.drainer)) moves.is
+          ∙ others-unit units (AsFeeder c.feeder ∷ AsDrainer c.drainer ∷ []) p q moves.new (AsDrainer c.drainer) ne;
+      number = ap length moves.is ∙ length-set units p moves.new;
+      made = (
+        ap (λ us. map b.opening us) moves.is
+        ∙ map-set_same b.opening units p moves.new moves.old (laws.opening_kept moves.old moves.act moves.new moves.steps ∙ ap b.opening moves.was),
+        refl,
+        refl,
+      );
+    }
+      where
+        c' : CoreState U
+        c' = core_of b rows edges' units' f d
 
-      row : row_at c.rows p ≡ drainer_row
-      row = ap (λ rs. row_at rs p) rows ∙ row_at-drainer (length c.nodes)
+        moves : UnitMoves b p (row_at (all_rows rows) p) units edges units' edges'
+        moves = subst (λ r. UnitMoves b p r units edges units' edges') (sym (row-unit p low)) moves₀
 
-      old_is : party c p ≡ AsDrainer c.drainer
-      old_is = party-drainer c (length c.nodes) (length-units b c rows sound)
+        old_is : party c p ≡ AsUnit moves.old
+        old_is = party-unit c p moves.old low ∙ ap (λ u. AsUnit u) (sym moves.was)
 
-      new_is : party c' p ≡ AsDrainer d
-      new_is = party-drainer c' (length c.nodes) (length-units b c rows sound)
+        new_is : party c' p ≡ AsUnit moves.new
+        new_is = party-unit c' p moves.new (subst (λ us. p < length us) (sym moves.is) (subst (λ n. p < n) (sym (length-set units p moves.new)) low))
+            ∙ ap (λ u. AsUnit u) (ap (λ us. slice_index_or us p moves.new) moves.is ∙ get_or-set_same units p moves.new moves.new low)
+
+    -- the feeder steps
+    pub CoreStep-feeder : (g : Feeding) (edges' : List (Queue Rec)) → g.input ≡ f.input
+        → FeederMoves (feeder_of f) (edge_at edges 0) (feeder_of g) (edge_at edges' 0) → edges' ≡ slice_set edges 0 (edge_at edges' 0)
+        → CoreStep b (length units) c (core_of b rows edges' units g d)
+    CoreStep-feeder g edges' kept moves is = record {
+      act = moves.act;
+      steps = PartyStep-at b moves.act old_is new_is moves.steps;
+      takes = gots_of-row c' p feeder_row row-feeder ∙ took-feeder (feeder_of f) moves.act (feeder_of g) moves.steps ∙ ap (took moves.act) (sym (gots_of-row c p feeder_row row-feeder));
+      gives = puts_of-row c' p feeder_row row-feeder ∙ moves.gives ∙ ap (gave moves.act) (sym (puts_of-row c p feeder_row row-feeder));
+      stalls = Stalls-at b c c' p moves.act old_is new_is (Stalls-feeder b c c' p (feeder_of f) (feeder_of g) moves.act (room_of (edge_at edges 0) ≡ 0)
+          (λ none. ap (λ (r : Row). slice_index (known_over edges r).rooms 0) row-feeder ∙ none) moves.stalls);
+      edges = EdgesKeep-to p c c' 0 (edge_at edges' 0) row-feeder some-edges.0 is moves.got moves.cap;
+      others = λ q q_low ne. others-feeder units (AsFeeder (feeder_of g)) (AsFeeder (feeder_of f)) (AsDrainer c.drainer ∷ []) q (AsDrainer c.drainer) ne;
+      number = refl;
+      made = (refl, kept, refl);
+    }
+      where
+        p : ℕ
+        p = length units
+
+        c' : CoreState U
+        c' = core_of b rows edges' units g d
+
+        old_is : party c p ≡ AsFeeder (feeder_of f)
+        old_is = party-feeder c p refl
+
+        new_is : party c' p ≡ AsFeeder (feeder_of g)
+        new_is = party-feeder c' p refl
+
+    -- the drainer steps
+    pub CoreStep-drainer : (e : Draining) (edges' : List (Queue Rec))
+        → DrainerMoves (drainer_of d) (edge_at edges 1) (drainer_of e) (edge_at edges' 1) → edges' ≡ slice_set edges 1 (edge_at edges' 1)
+        → CoreStep b (suc (length units)) c (core_of b rows edges' units f e)
+    CoreStep-drainer e edges' moves is = record {
+      act = moves.act;
+      steps = PartyStep-at b moves.act old_is new_is moves.steps;
+      takes = gots_of-row c' p drainer_row row-drainer ∙ moves.takes ∙ ap (took moves.act) (sym (gots_of-row c p drainer_row row-drainer));
+      gives = puts_of-row c' p drainer_row row-drainer ∙ gave-drainer (drainer_of d) moves.act (drainer_of e) moves.steps ∙ ap (gave moves.act) (sym (puts_of-row c p drainer_row row-drainer));
+      stalls = Stalls-at b c c' p moves.act old_is new_is (Stalls-drainer b c c' p (drainer_of d) (drainer_of e) moves.act ((edge_at edges 1).inside ≡ [])
+          (λ none. ap (λ (r : Row). slice_index (known_over edges r).knowns 0) row-drainer ∙ ap length none) moves.stalls);
+      edges = EdgesKeep-from p c c' 1 (edge_at edges' 1) row-drainer some-edges.1 is moves.put moves.cap;
+      others = λ q q_low ne. others-drainer units (AsFeeder c.feeder) (AsDrainer (drainer_of e)) (AsDrainer (drainer_of d)) q (subst (λ n. q < n) (length-parties c) q_low) ne;
+      number = refl;
+      made = (refl, refl, refl);
+    }
+      where
+        p : ℕ
+        p = suc (length units)
+
+        c' : CoreState U
+        c' = core_of b rows edges' units f e
+
+        old_is : party c p ≡ AsDrainer (drainer_of d)
+        old_is = party-drainer c (length units) refl
+
+        new_is : party c' p ≡ AsDrainer (drainer_of e)
+        new_is = party-drainer c' (length units) refl
+
+-- other units that were the same before their first steps
+pub core_of-units : {U : Type 0} (b : Doing U) (rows : List Row) (edges : List (Queue Rec)) (units units' : List U) (f : Feeding) (d : Draining)
+    → map b.opening units' ≡ map b.opening units → core_of b rows edges units' f d ≡ record (core_of b rows edges units f d) { units = units' }
+core_of-units {U} b rows edges units units' f d same = ap (λ (m : List U). record (core_of b rows edges units f d) { made = m; units = units' }) same

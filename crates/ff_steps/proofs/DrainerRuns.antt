@@ -5,10 +5,9 @@ use Rattle.std.proofs.lemmas.List.{append-nil}
 use Rattle.ff_rec.specs.Lines.{Rec}
 use Rattle.ff_rec.specs.Streams.{IsOpenMsg, at, items}
 use Rattle.ff_rec.specs.declared.msg.Msg.TheVariants.{Item, Mark, Pick, Eos, Abort}
-use Rattle.ff_node.specs.Behaviour.{Behaviour}
 use Rattle.ff_node.specs.Runs.{Message, Act, Took, Gave, Refused, Idle, Told, Handed, took, took_on, Leads, HasRun}
-use Rattle.ff_steps.specs.Parties.{Party, Drainer, AsUnit, AsFeeder, AsDrainer, PartyStep, DrainerStep}
-use Rattle.ff_unit.proofs.Messages.{items-append}
+use Rattle.ff_steps.specs.Parties.{Drainer, DrainerStep, opening_drainer}
+use Rattle.ff_unit.specs.MessageLaws.{items-append}
 
 -- the last message of a list is Eos or Abort
 pub record IsEnded (ms : List Message) : Type 0 where
@@ -25,11 +24,6 @@ pub record HasDrained (d : Drainer) (gots : List (List Message)) : Type 0 where
   pub kept : items got ≡ d.output ++ lost
   pub all : d.refused ≡ false → lost ≡ []
   pub ended : d.done ≡ true → IsEnded got
-
-abbrev PartyDrained : {N : Type 0} → Party N → List (List Message) → Type 0
-PartyDrained (AsUnit u) gots = ⊥
-PartyDrained (AsFeeder f) gots = ⊥
-PartyDrained (AsDrainer d) gots = HasDrained d gots
 
 -- one message more at the only in
 abbrev pulled : List (List Message) → Message → List (List Message)
@@ -117,35 +111,27 @@ HasDrained-more d Idle e gots h step = subst (λ x. HasDrained x gots) (sym step
 HasDrained-more d Told e gots h step = absurd step
 HasDrained-more d (Handed x) e gots h step = absurd step
 
-module _ {N : Type 0} (b : Behaviour N) where
-  PartyDrained-more : (q : Party N) (act : Act) (r : Party N) (gots : List (List Message)) → PartyDrained q gots → PartyStep b q act r → PartyDrained r (took act gots)
-  PartyDrained-more (AsUnit u) act r gots h step = absurd h
-  PartyDrained-more (AsFeeder f) act r gots h step = absurd h
-  PartyDrained-more (AsDrainer d) act (AsUnit v) gots h step = step
-  PartyDrained-more (AsDrainer d) act (AsFeeder g) gots h step = step
-  PartyDrained-more (AsDrainer d) act (AsDrainer e) gots h step = HasDrained-more d act e gots h step
+HasDrained-leads : (acts : List Act) (d : Drainer) → Leads DrainerStep opening_drainer acts d → HasDrained d (took_on ([] ∷ []) acts)
+HasDrained-leads [] d l = subst (λ e. HasDrained e ([] ∷ [])) (sym l)
+    (record { got = []; gots_are = refl; lost = []; kept = refl; all = λ e. refl; ended = λ e. absurd (both_ways false refl e) })
+HasDrained-leads (act ∷ acts) d l = HasDrained-more l.0 act d (took_on ([] ∷ []) acts) (HasDrained-leads acts l.0 l.1) l.2
 
-  PartyDrained-leads : (acts : List Act) (q : Party N) → Leads (PartyStep b) (AsDrainer (drainer [] false false)) acts q → PartyDrained q (took_on ([] ∷ []) acts)
-  PartyDrained-leads [] q l = subst (λ r. PartyDrained r ([] ∷ [])) (sym l)
-      (record { got = []; gots_are = refl; lost = []; kept = refl; all = λ e. refl; ended = λ e. absurd (both_ways false refl e) })
-  PartyDrained-leads (act ∷ acts) q l = PartyDrained-more l.0 act q (took_on ([] ∷ []) acts) (PartyDrained-leads acts l.0 l.1) l.2
+-- a run of the drainer
+HasDrained-run : (d : Drainer) (gots puts : List (List Message)) → HasRun DrainerStep opening_drainer 1 0 d gots puts → HasDrained d gots
+HasDrained-run d gots puts run = subst (HasDrained d) (sym run.takes) (HasDrained-leads run.acts d run.leads)
 
-  -- a run of the drainer
-  HasDrained-run : (d : Drainer) (gots puts : List (List Message)) → HasRun (PartyStep b) (AsDrainer (drainer [] false false)) 1 0 (AsDrainer d) gots puts → HasDrained d gots
-  HasDrained-run d gots puts run = subst (HasDrained d) (sym run.takes) (PartyDrained-leads run.acts (AsDrainer d) run.leads)
+-- what it kept is a beginning of what it took
+pub items-drainer : (d : Drainer) (gots puts : List (List Message)) → HasRun DrainerStep opening_drainer 1 0 d gots puts
+    → (lost : List Rec) × (items (at gots 0) ≡ d.output ++ lost) × (d.refused ≡ false → lost ≡ [])
+items-drainer d gots puts run = of (HasDrained-run d gots puts run)
+  where
+    of : HasDrained d gots → (lost : List Rec) × (items (at gots 0) ≡ d.output ++ lost) × (d.refused ≡ false → lost ≡ [])
+    of h = (h.lost, ap (λ g. items (at g 0)) h.gots_are ∙ h.kept, h.all)
 
-  -- what it kept is a beginning of what it took
-  pub items-drainer : (d : Drainer) (gots puts : List (List Message)) → HasRun (PartyStep b) (AsDrainer (drainer [] false false)) 1 0 (AsDrainer d) gots puts
-      → (lost : List Rec) × (items (at gots 0) ≡ d.output ++ lost) × (d.refused ≡ false → lost ≡ [])
-  items-drainer d gots puts run = of (HasDrained-run d gots puts run)
-    where
-      of : HasDrained d gots → (lost : List Rec) × (items (at gots 0) ≡ d.output ++ lost) × (d.refused ≡ false → lost ≡ [])
-      of h = (h.lost, ap (λ g. items (at g 0)) h.gots_are ∙ h.kept, h.all)
-
-  -- once it has ended, it took Eos or Abort last
-  pub IsEnded-drainer : (d : Drainer) (gots puts : List (List Message)) → HasRun (PartyStep b) (AsDrainer (drainer [] false false)) 1 0 (AsDrainer d) gots puts
-      → d.done ≡ true → IsEnded (at gots 0)
-  IsEnded-drainer d gots puts run done = of (HasDrained-run d gots puts run)
-    where
-      of : HasDrained d gots → IsEnded (at gots 0)
-      of h = subst (λ g. IsEnded (at g 0)) (sym h.gots_are) (h.ended done)
+-- once it has ended, it took Eos or Abort last
+pub IsEnded-drainer : (d : Drainer) (gots puts : List (List Message)) → HasRun DrainerStep opening_drainer 1 0 d gots puts
+    → d.done ≡ true → IsEnded (at gots 0)
+IsEnded-drainer d gots puts run done = of (HasDrained-run d gots puts run)
+  where
+    of : HasDrained d gots → IsEnded (at gots 0)
+    of h = subst (λ g. IsEnded (at g 0)) (sym h.gots_are) (h.ended done)

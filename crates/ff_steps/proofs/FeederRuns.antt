@@ -3,12 +3,11 @@ use Rattle.std.proofs.Common.{◌≡◌, ℕ, Bool, true, false, List, [], ◌�
 use Rattle.std.proofs.lemmas.Bool.{both_ways}
 use Rattle.std.proofs.lemmas.List.{append-nil}
 use Rattle.ff_rec.specs.Lines.{Rec}
-use Rattle.ff_rec.specs.Streams.{at, carried, closed, unaborted, GoesOn}
+use Rattle.ff_rec.specs.Streams.{IsOpen, at, carried, closed, unaborted, GoesOn}
 use Rattle.ff_rec.specs.declared.msg.Msg.TheVariants.{Item, Mark, Pick, Eos, Abort}
-use Rattle.ff_node.specs.Behaviour.{Behaviour}
 use Rattle.ff_node.specs.Runs.{Message, Act, Took, Gave, Refused, Idle, Told, Handed, gave, gave_on, Leads, HasRun}
-use Rattle.ff_steps.specs.Parties.{Party, Feeder, AsUnit, AsFeeder, AsDrainer, PartyStep, FeederStep}
-use Rattle.ff_unit.proofs.Messages.{IsOpen-carried, unaborted-append}
+use Rattle.ff_steps.specs.Parties.{Feeder, FeederStep, opening_feeder}
+use Rattle.ff_unit.specs.MessageLaws.{IsOpen-carried, unaborted-append}
 use Rattle.ff_steps.proofs.MessageLists.{unaborted-carried, carried-append}
 
 -- what an ended feeder has put behind its records
@@ -23,11 +22,6 @@ pub record HasFed (input : List Rec) (f : Feeder) (puts : List (List Message)) :
   pub is : input ≡ sent ++ f.left
   pub puts_are : puts ≡ (carried sent ++ feeder_tail f.done f.refused) ∷ []
   pub all : f.done ≡ true → f.refused ≡ false → f.left ≡ []
-
-abbrev PartyFed : {N : Type 0} → List Rec → Party N → List (List Message) → Type 0
-PartyFed input (AsUnit u) puts = ⊥
-PartyFed input (AsFeeder f) puts = HasFed input f puts
-PartyFed input (AsDrainer d) puts = ⊥
 
 -- one message more at the only out
 abbrev pushed : List (List Message) → Message → List (List Message)
@@ -126,24 +120,17 @@ GoesOn-tail sent left true true all = record {
       ∙ ap (λ l. l ++ closed (carried left)) (sym (unaborted-append (carried sent) (Abort ∷ []) ∙ append-nil (unaborted (carried sent)) ∙ unaborted-carried sent));
 }
 
-module _ {N : Type 0} (b : Behaviour N) (input : List Rec) where
-  PartyFed-more : (q : Party N) (act : Act) (r : Party N) (puts : List (List Message)) → PartyFed input q puts → PartyStep b q act r → PartyFed input r (gave act puts)
-  PartyFed-more (AsUnit u) act r puts fed step = absurd fed
-  PartyFed-more (AsFeeder f) act (AsUnit v) puts fed step = step
-  PartyFed-more (AsFeeder f) act (AsFeeder g) puts fed step = HasFed-more input f act g puts fed step
-  PartyFed-more (AsFeeder f) act (AsDrainer e) puts fed step = step
-  PartyFed-more (AsDrainer d) act r puts fed step = absurd fed
-
-  PartyFed-leads : (acts : List Act) (q : Party N) → Leads (PartyStep b) (AsFeeder (feeder input false false)) acts q → PartyFed input q (gave_on ([] ∷ []) acts)
-  PartyFed-leads [] q l = subst (λ r. PartyFed input r ([] ∷ [])) (sym l) (record { sent = []; is = refl; puts_are = refl; all = λ done whole. absurd (both_ways false refl done) })
-  PartyFed-leads (act ∷ acts) q l = PartyFed-more l.0 act q (gave_on ([] ∷ []) acts) (PartyFed-leads acts l.0 l.1) l.2
+module _ (input : List Rec) where
+  HasFed-leads : (acts : List Act) (f : Feeder) → Leads FeederStep (opening_feeder input) acts f → HasFed input f (gave_on ([] ∷ []) acts)
+  HasFed-leads [] f l = subst (λ g. HasFed input g ([] ∷ [])) (sym l) (record { sent = []; is = refl; puts_are = refl; all = λ done whole. absurd (both_ways false refl done) })
+  HasFed-leads (act ∷ acts) f l = HasFed-more input l.0 act f (gave_on ([] ∷ []) acts) (HasFed-leads acts l.0 l.1) l.2
 
   -- a run of the feeder
-  pub HasFed-run : (f : Feeder) (gots puts : List (List Message)) → HasRun (PartyStep b) (AsFeeder (feeder input false false)) 0 1 (AsFeeder f) gots puts → HasFed input f puts
-  HasFed-run f gots puts run = subst (HasFed input f) (sym run.gives) (PartyFed-leads run.acts (AsFeeder f) run.leads)
+  pub HasFed-run : (f : Feeder) (gots puts : List (List Message)) → HasRun FeederStep (opening_feeder input) 0 1 f gots puts → HasFed input f puts
+  HasFed-run f gots puts run = subst (HasFed input f) (sym run.gives) (HasFed-leads run.acts f run.leads)
 
   -- what it put goes on to the whole input
-  pub GoesOn-feeder : (f : Feeder) (gots puts : List (List Message)) → HasRun (PartyStep b) (AsFeeder (feeder input false false)) 0 1 (AsFeeder f) gots puts
+  pub GoesOn-feeder : (f : Feeder) (gots puts : List (List Message)) → HasRun FeederStep (opening_feeder input) 0 1 f gots puts
       → GoesOn (unaborted (at puts 0)) (carried input)
   GoesOn-feeder f gots puts run = of (HasFed-run f gots puts run)
     where
@@ -152,10 +139,17 @@ module _ {N : Type 0} (b : Behaviour N) (input : List Rec) where
           (subst (λ xs. GoesOn (unaborted (carried fed.sent ++ feeder_tail f.done f.refused)) (carried xs)) (sym fed.is) (GoesOn-tail fed.sent f.left f.done f.refused fed.all))
 
   -- once it has ended and wasn't refused memory, it put all of it
-  pub at-feeder_done : (f : Feeder) (gots puts : List (List Message)) → HasRun (PartyStep b) (AsFeeder (feeder input false false)) 0 1 (AsFeeder f) gots puts
+  pub at-feeder_done : (f : Feeder) (gots puts : List (List Message)) → HasRun FeederStep (opening_feeder input) 0 1 f gots puts
       → f.done ≡ true → f.refused ≡ false → at puts 0 ≡ closed (carried input)
   at-feeder_done f gots puts run done whole = of (HasFed-run f gots puts run)
     where
       of : HasFed input f puts → at puts 0 ≡ closed (carried input)
       of fed = ap (λ p. at p 0) fed.puts_are ∙ ap₂ (λ d r. carried fed.sent ++ feeder_tail d r) done whole
           ∙ ap (λ xs. closed (carried xs)) (sym (fed.is ∙ ap (λ l. fed.sent ++ l) (fed.all done whole) ∙ append-nil fed.sent))
+
+  -- what an open feeder put is open
+  pub IsOpen-feeder : (f : Feeder) (put : List Message) → HasRun FeederStep (opening_feeder input) 0 1 f [] (put ∷ []) → f.done ≡ false → IsOpen put
+  IsOpen-feeder f put run undone = of (HasFed-run f [] (put ∷ []) run)
+    where
+      of : HasFed input f (put ∷ []) → IsOpen put
+      of fed = subst IsOpen (sym (append-nil (carried fed.sent)) ∙ ap (λ d. carried fed.sent ++ feeder_tail d f.refused) (sym undone) ∙ ap (λ p. at p 0) (sym fed.puts_are)) (IsOpen-carried fed.sent)

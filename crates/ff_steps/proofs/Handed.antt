@@ -1,26 +1,21 @@
--- A reject that is taken out keeps a good moment.
+-- A reject that is taken out keeps a sound core.
 use Rattle.std.proofs.Common.{◌≡◌, inl, inr, ℕ, ◌+◌, ◌<◌, List, [], ◌∷◌, ◌++◌, length, map, Option, None, Some, slice_index_or, slice_set, refl, sym, ap, ◌∙◌, subst, length-set, get_or-set_same}
 use Rattle.std.proofs.Math.Seq.{map-set_same}
 use Rattle.std.proofs.lemmas.Bool.{cases_eq}
 use Rattle.ff_rec.specs.Lines.{Rec}
-use Rattle.ff_node.specs.Behaviour.{Behaviour}
-use Rattle.ff_node.specs.Runs.{Handed, HasRun}
-use Rattle.ff_unit.specs.Stage.{StageState, opening_stage}
-use Rattle.ff_steps.specs.Core.{CoreState, parties, party, gots_of, puts_of}
-use Rattle.ff_steps.specs.Events.{IsGood}
-use Rattle.ff_steps.specs.Parties.{AsUnit, AsFeeder, AsDrainer, PartyStep, opening_party}
+use Rattle.ff_node.specs.Runs.{Handed}
+use Rattle.ff_unit.specs.Units.{Doing, IsUnit}
+use Rattle.ff_steps.specs.Core.{CoreState, parties, party, gots_of, puts_of, IsSound}
+use Rattle.ff_steps.specs.Parties.{AsUnit, AsFeeder, AsDrainer, PartyStep, PartyRan}
 use Rattle.ff_steps.specs.Rejects.{HandsFirst, Hands, NoneBelow}
-use Rattle.ff_steps.specs.Lined.{IsLine}
-use Rattle.ff_steps.specs.Wiring.{row_at}
 use Rattle.ff_steps.proofs.CoreSteps.{PartyStep-at}
-use Rattle.ff_steps.proofs.LineSteps.{others-unit}
+use Rattle.ff_steps.proofs.Others.{others-unit}
 use Rattle.ff_steps.proofs.PartyAt.{length-parties, party-unit}
-use Rattle.ff_steps.proofs.PartyRuns.{HasRun-party}
-use Rattle.ff_steps.proofs.StageFacts.{StageFacts}
+use Rattle.ff_steps.proofs.PartyRuns.{PartyRan-step}
 
-module _ {N : Type 0} (b : Behaviour N) (facts : StageFacts b) (c : CoreState N) (x : Rec) (units' : List (StageState N)) (hands : HandsFirst c.units x units') where
+module _ {U : Type 0} (b : Doing U) (laws : IsUnit b) (c : CoreState U) (x : Rec) (units' : List U) (hands : HandsFirst b c.units x units') where
   -- the core behind it
-  abbrev c' : CoreState N
+  abbrev c' : CoreState U
   c' = record c { units = units' }
 
   -- the number of parties
@@ -35,51 +30,55 @@ module _ {N : Type 0} (b : Behaviour N) (facts : StageFacts b) (c : CoreState N)
       ∙ ap (λ u. AsUnit u) (ap (λ us. slice_index_or us hands.p hands.new) hands.is ∙ get_or-set_same c.units hands.p hands.new hands.new hands.within))
       hands.hands
 
-  pub IsGood-handed : IsGood b c → IsGood b (record c { units = units' })
-  IsGood-handed good = record {
-    sound = record {
-      wired = good.sound.wired;
-      made_of = ap (map (opening_stage b)) hands.is
-          ∙ map-set_same (opening_stage b) c.units hands.p hands.new hands.old (ap (opening_stage b) (sym hands.hands) ∙ ap (opening_stage b) hands.was)
-          ∙ good.sound.made_of;
-      rows = good.sound.rows ∙ sym same_length;
-      ran = λ q low. ran q (subst (λ n. q < n) same_length low);
-    };
-    begins = record { rest = good.begins.rest; is = good.begins.is };
+  -- what each unit was before its first step
+  pub made-handed : map b.opening units' ≡ map b.opening c.units
+  made-handed = ap (map b.opening) hands.is
+      ∙ map-set_same b.opening c.units hands.p hands.new hands.old (laws.opening_kept hands.old (Handed x) hands.new hands.hands ∙ ap b.opening hands.was)
+
+  pub IsSound-handed : IsSound b c → IsSound b (record c { units = units' })
+  IsSound-handed sound = record {
+    wired = sound.wired;
+    made_of = made-handed ∙ sound.made_of;
+    rows_are = sound.rows_are ∙ sym same_length;
+    ran = λ q low. ran q (subst (λ n. q < n) same_length low);
   }
     where
-      ran : (q : ℕ) → q < length (parties c)
-          → HasRun (PartyStep b) (opening_party b c.input (party c' q)) (length (row_at c.rows q).ins) (length (row_at c.rows q).outs) (party c' q) (gots_of c q) (puts_of c q)
+      ran : (q : ℕ) → q < length (parties c) → PartyRan b c.input (party c' q) (gots_of c q) (puts_of c q)
       ran q low = elim (cases_eq q hands.p) [
-        | inl e ↦ subst (λ n. HasRun (PartyStep b) (opening_party b c.input (party c' n)) (length (row_at c.rows n).ins) (length (row_at c.rows n).outs) (party c' n) (gots_of c n) (puts_of c n)) (sym e)
-            (HasRun-party b facts.opening c.input (length (row_at c.rows hands.p).ins) (length (row_at c.rows hands.p).outs) (party c hands.p) (gots_of c hands.p) (puts_of c hands.p) (Handed x) (party c' hands.p)
-            (gots_of c hands.p) (puts_of c hands.p) (good.sound.ran hands.p (subst (λ n. n < length (parties c)) e low)) handed refl refl)
-        | inr ne ↦ subst (λ r. HasRun (PartyStep b) (opening_party b c.input r) (length (row_at c.rows q).ins) (length (row_at c.rows q).outs) r (gots_of c q) (puts_of c q))
+        | inl e ↦ subst (λ n. PartyRan b c.input (party c' n) (gots_of c n) (puts_of c n)) (sym e)
+            (PartyRan-step b laws c.input (party c hands.p) (gots_of c hands.p) (puts_of c hands.p) (Handed x) (party c' hands.p)
+            (gots_of c hands.p) (puts_of c hands.p) (sound.ran hands.p (subst (λ n. n < length (parties c)) e low)) handed refl refl)
+        | inr ne ↦ subst (λ r. PartyRan b c.input r (gots_of c q) (puts_of c q))
             (sym (ap (λ us. slice_index_or (map (λ u. AsUnit u) us ++ AsFeeder c.feeder ∷ AsDrainer c.drainer ∷ []) q (AsDrainer c.drainer)) hands.is
-            ∙ others-unit c.units (AsFeeder c.feeder ∷ AsDrainer c.drainer ∷ []) hands.p q hands.new (AsDrainer c.drainer) ne)) (good.sound.ran q low)
+            ∙ others-unit c.units (AsFeeder c.feeder ∷ AsDrainer c.drainer ∷ []) hands.p q hands.new (AsDrainer c.drainer) ne)) (sound.ran q low)
       ]
 
--- the same of any answer
-pub IsGood-hands : {N : Type 0} (b : Behaviour N) → StageFacts b → (c : CoreState N) (r : Option Rec) (units' : List (StageState N)) → Hands c.units r units'
-    → IsGood b c → IsGood b (record c { units = units' })
-IsGood-hands b facts c None units' hands good = subst (λ us. IsGood b (record c { units = us })) (sym hands.1) good
-IsGood-hands b facts c (Some x) units' hands good = IsGood-handed b facts c x units' hands good
+module _ {U : Type 0} (b : Doing U) (laws : IsUnit b) where
+  -- whatever was answered
+  pub IsSound-hands : (c : CoreState U) (r : Option Rec) (units' : List U) → Hands b c.units r units' → IsSound b c → IsSound b (record c { units = units' })
+  IsSound-hands c None units' hands sound = subst (λ us. IsSound b (record c { units = us })) (sym hands.1) sound
+  IsSound-hands c (Some x) units' hands sound = IsSound-handed b laws c x units' hands sound
 
--- as many units as before
-pub IsLine-hands : {N : Type 0} (us : List (StageState N)) (r : Option Rec) (us' : List (StageState N)) (nodes edges : ℕ) → Hands us r us' → IsLine nodes (length us) edges → IsLine nodes (length us') edges
-IsLine-hands us None us' nodes edges hands is_pipeline = subst (λ xs. IsLine nodes (length xs) edges) (sym hands.1) is_pipeline
-IsLine-hands us (Some x) us' nodes edges hands is_pipeline = subst (λ n. IsLine nodes n edges) (sym (ap length hands.is ∙ length-set us hands.p hands.new)) is_pipeline
+  pub made-hands : (us : List U) (r : Option Rec) (us' : List U) → (c : CoreState U) → c.units ≡ us → Hands b us r us' → map b.opening us' ≡ map b.opening us
+  made-hands us None us' c are hands = ap (map b.opening) hands.1
+  made-hands us (Some x) us' c are hands = made-handed b laws (record c { units = us }) x us' hands
+
+  -- as many units as before
+  pub length-hands : (us : List U) (r : Option Rec) (us' : List U) → Hands b us r us' → length us' ≡ length us
+  length-hands us None us' hands = ap length hands.1
+  length-hands us (Some x) us' hands = ap length hands.is ∙ length-set us hands.p hands.new
 
 -- the unit at this place, in a list that is the old one
-pub HandsFirst-at : {N : Type 0} (us us' : List (StageState N)) (p : ℕ) (u v : StageState N) (x : Rec) → us' ≡ us → p < length us → NoneBelow us p
-    → u ≡ slice_index_or us' p u → u ≡ record v { kept = x ∷ v.kept } → HandsFirst us x (slice_set us' p v)
-HandsFirst-at us us' p u v x same within below was hands = record {
+pub HandsFirst-at : {U : Type 0} (b : Doing U) (us us' : List U) (p : ℕ) (u v : U) (x : Rec) → us' ≡ us → p < length us → NoneBelow b us p
+    → u ≡ slice_index_or us' p u → b.Steps u (Handed x) v × (b.kept u ≡ x ∷ b.kept v) → HandsFirst b us x (slice_set us' p v)
+HandsFirst-at b us us' p u v x same within below was hands = record {
   p = p;
   within = within;
   below = below;
   old = u;
   new = v;
   was = was ∙ ap (λ xs. slice_index_or xs p u) same;
-  hands = hands;
+  hands = hands.0;
+  held = hands.1;
   is = ap (λ xs. slice_set xs p v) same;
 }

@@ -4,7 +4,7 @@ use Rattle.std.proofs.lemmas.List.{map-append, append-nil}
 use Rattle.ff_rec.specs.Streams.{IsOpenMsg, items, carried, unaborted, closed, GoesOn}
 use Rattle.ff_rec.specs.declared.msg.Msg.{Msg}
 use Rattle.ff_rec.specs.declared.msg.Msg.TheVariants.{Item, Mark, Pick, Eos, Abort}
-use Rattle.ff_unit.proofs.Messages.{IsOpen-carried, unaborted-append, unaborted-open, items-append}
+use Rattle.ff_unit.specs.MessageLaws.{IsOpen-carried, unaborted-append, unaborted-open, items-append}
 
 -- records alone have no Abort
 pub unaborted-carried : {T : Type 0} (xs : List T) → unaborted (carried xs) ≡ carried xs

@@ -1,88 +1,61 @@
--- A party stays what it is, and a unit's run is a run of its stage.
-use Rattle.std.proofs.Common.{◌≡◌, ℕ, List, [], ◌∷◌, length, refl, sym, ap, ◌∙◌, subst}
+-- A party stays what it is, and its run goes on with each of its steps.
+use Rattle.std.proofs.Common.{◌≡◌, List, ◌∷◌, refl, sym, ap, ◌∙◌, subst}
 use Rattle.ff_rec.specs.Lines.{Rec}
-use Rattle.ff_node.specs.Behaviour.{Behaviour}
-use Rattle.ff_node.specs.Runs.{Message, Act, took, gave, Leads, HasRun}
-use Rattle.ff_unit.specs.Stage.{StageState}
-use Rattle.ff_unit.specs.StageSteps.{StageStep}
-use Rattle.ff_steps.specs.Parties.{Party, AsUnit, AsFeeder, AsDrainer, PartyStep, opening_party}
-use Rattle.ff_steps.specs.Wiring.{Row}
-use Rattle.ff_steps.proofs.StageFacts.{KeepsOpening}
+use Rattle.ff_node.specs.Runs.{Message, Act, took, gave}
+use Rattle.ff_unit.specs.Units.{Doing, IsUnit}
+use Rattle.ff_unit.proofs.UnitRuns.{Ran-act}
+use Rattle.ff_steps.specs.Parties.{Party, AsUnit, AsFeeder, AsDrainer, PartyStep, PartyRan}
 
--- the stage of a party, or `u`
-abbrev stage_or : {N : Type 0} → StageState N → Party N → StageState N
-stage_or u (AsUnit v) = v
-stage_or u (AsFeeder f) = u
-stage_or u (AsDrainer d) = u
+-- the unit of a party, or `u`
+abbrev pub unit_or : {U : Type 0} → U → Party U → U
+unit_or u (AsUnit v) = v
+unit_or u (AsFeeder f) = u
+unit_or u (AsDrainer d) = u
 
-pub AsUnit-same : {N : Type 0} {u v : StageState N} → AsUnit u ≡ AsUnit v → u ≡ v
-AsUnit-same {N} {u} {v} e = ap (stage_or u) e
+pub AsUnit-same : {U : Type 0} {u v : U} → AsUnit u ≡ AsUnit v → u ≡ v
+AsUnit-same {U} {u} {v} e = ap (unit_or u) e
 
--- what a run of a unit has led to
-abbrev UnitLed : {N : Type 0} → Behaviour N → StageState N → List Act → Party N → Type 0
-UnitLed b s acts (AsUnit u) = Leads (StageStep b) s acts u
-UnitLed b s acts (AsFeeder f) = ⊥
-UnitLed b s acts (AsDrainer d) = ⊥
-
--- the run of a party with these rows
-abbrev pub RunAt : {N : Type 0} → Behaviour N → List Rec → Row → Party N → List (List Message) → List (List Message) → Type 0
-RunAt b input row q gots puts = HasRun (PartyStep b) (opening_party b input q) (length row.ins) (length row.outs) q gots puts
-
-module _ {N : Type 0} (b : Behaviour N) where
-  -- a unit's steps are those of its stage
-  UnitLed-more : (s : StageState N) (acts : List Act) (q : Party N) (act : Act) (r : Party N) → UnitLed b s acts q → PartyStep b q act r → UnitLed b s (act ∷ acts) r
-  UnitLed-more s acts (AsUnit u) act (AsUnit v) led step = (u, led, step)
-  UnitLed-more s acts (AsUnit u) act (AsFeeder f) led step = step
-  UnitLed-more s acts (AsUnit u) act (AsDrainer d) led step = step
-  UnitLed-more s acts (AsFeeder f) act r led step = absurd led
-  UnitLed-more s acts (AsDrainer d) act r led step = absurd led
-
-  UnitLed-leads : (s : StageState N) (acts : List Act) (q : Party N) → Leads (PartyStep b) (AsUnit s) acts q → UnitLed b s acts q
-  UnitLed-leads s [] q l = subst (UnitLed b s []) (sym l) refl
-  UnitLed-leads s (act ∷ acts) q l = UnitLed-more s acts l.0 act q (UnitLed-leads s acts l.0 l.1) l.2
-
-  pub HasRun-unit : (s : StageState N) (ins outs : ℕ) (u : StageState N) (gots puts : List (List Message))
-      → HasRun (PartyStep b) (AsUnit s) ins outs (AsUnit u) gots puts → HasRun (StageStep b) s ins outs u gots puts
-  HasRun-unit s ins outs u gots puts run = record { acts = run.acts; leads = UnitLed-leads s run.acts (AsUnit u) run.leads; takes = run.takes; gives = run.gives }
-
-  -- and back
-  Leads-as_unit : (s : StageState N) (acts : List Act) (u : StageState N) → Leads (StageStep b) s acts u → Leads (PartyStep b) (AsUnit s) acts (AsUnit u)
-  Leads-as_unit s [] u l = ap (λ v. AsUnit v) l
-  Leads-as_unit s (act ∷ acts) u l = (AsUnit l.0, Leads-as_unit s acts l.0 l.1, l.2)
-
-  pub HasRun-as_unit : (s : StageState N) (ins outs : ℕ) (u : StageState N) (gots puts : List (List Message))
-      → HasRun (StageStep b) s ins outs u gots puts → HasRun (PartyStep b) (AsUnit s) ins outs (AsUnit u) gots puts
-  HasRun-as_unit s ins outs u gots puts run = record { acts = run.acts; leads = Leads-as_unit s run.acts u run.leads; takes = run.takes; gives = run.gives }
-
-  -- a step doesn't change what a party was before its first step
-  pub opening_party-step : KeepsOpening b → (input : List Rec) (q : Party N) (act : Act) (r : Party N) → PartyStep b q act r → opening_party b input r ≡ opening_party b input q
-  opening_party-step keeps input (AsUnit u) act (AsUnit v) step = ap (λ s. AsUnit s) (keeps u act v step)
-  opening_party-step keeps input (AsUnit u) act (AsFeeder g) step = absurd step
-  opening_party-step keeps input (AsUnit u) act (AsDrainer e) step = absurd step
-  opening_party-step keeps input (AsFeeder f) act (AsUnit v) step = absurd step
-  opening_party-step keeps input (AsFeeder f) act (AsFeeder g) step = refl
-  opening_party-step keeps input (AsFeeder f) act (AsDrainer e) step = absurd step
-  opening_party-step keeps input (AsDrainer d) act (AsUnit v) step = absurd step
-  opening_party-step keeps input (AsDrainer d) act (AsFeeder g) step = absurd step
-  opening_party-step keeps input (AsDrainer d) act (AsDrainer e) step = refl
+module _ {U : Type 0} (b : Doing U) where
+  -- a step of a party that keeps what `f` tells of a unit
+  pub unit_or-step : {A : Type 0} (f : U → A) (act : Act) → ((u v : U) → b.Steps u act v → f v ≡ f u) → (u : U) (q r : Party U) → PartyStep b q act r → f (unit_or u r) ≡ f (unit_or u q)
+  unit_or-step f act keeps u (AsUnit x) (AsUnit y) step = keeps x y step
+  unit_or-step f act keeps u (AsUnit x) (AsFeeder g) step = absurd step
+  unit_or-step f act keeps u (AsUnit x) (AsDrainer e) step = absurd step
+  unit_or-step f act keeps u (AsFeeder g) (AsUnit y) step = absurd step
+  unit_or-step f act keeps u (AsFeeder g) (AsFeeder h) step = refl
+  unit_or-step f act keeps u (AsFeeder g) (AsDrainer e) step = absurd step
+  unit_or-step f act keeps u (AsDrainer d) (AsUnit y) step = absurd step
+  unit_or-step f act keeps u (AsDrainer d) (AsFeeder h) step = absurd step
+  unit_or-step f act keeps u (AsDrainer d) (AsDrainer e) step = refl
 
   -- one step more
-  pub HasRun-party : KeepsOpening b → (input : List Rec) (ins outs : ℕ) (q : Party N) (gots puts : List (List Message)) (act : Act) (r : Party N) (gots' puts' : List (List Message))
-      → HasRun (PartyStep b) (opening_party b input q) ins outs q gots puts → PartyStep b q act r → gots' ≡ took act gots → puts' ≡ gave act puts
-      → HasRun (PartyStep b) (opening_party b input r) ins outs r gots' puts'
-  HasRun-party keeps input ins outs q gots puts act r gots' puts' run step takes gives = record {
-    acts = act ∷ run.acts;
-    leads = (q, subst (λ start. Leads (PartyStep b) start run.acts q) (sym (opening_party-step keeps input q act r step)) run.leads, step);
-    takes = takes ∙ ap (took act) run.takes;
-    gives = gives ∙ ap (gave act) run.gives;
+  pub PartyRan-step : IsUnit b → (input : List Rec) (q : Party U) (gots puts : List (List Message)) (act : Act) (r : Party U) (gots' puts' : List (List Message))
+      → PartyRan b input q gots puts → PartyStep b q act r → gots' ≡ took act gots → puts' ≡ gave act puts → PartyRan b input r gots' puts'
+  PartyRan-step laws input (AsUnit u) gots puts act (AsUnit v) gots' puts' ran step takes gives = Ran-act b laws u gots puts act v gots' puts' ran step takes gives
+  PartyRan-step laws input (AsUnit u) gots puts act (AsFeeder g) gots' puts' ran step takes gives = absurd step
+  PartyRan-step laws input (AsUnit u) gots puts act (AsDrainer e) gots' puts' ran step takes gives = absurd step
+  PartyRan-step laws input (AsFeeder f) gots puts act (AsUnit v) gots' puts' ran step takes gives = absurd step
+  PartyRan-step laws input (AsFeeder f) gots puts act (AsFeeder g) gots' puts' ran step takes gives = record {
+    acts = act ∷ ran.acts;
+    leads = (f, ran.leads, step);
+    takes = takes ∙ ap (took act) ran.takes;
+    gives = gives ∙ ap (gave act) ran.gives;
+  }
+  PartyRan-step laws input (AsFeeder f) gots puts act (AsDrainer e) gots' puts' ran step takes gives = absurd step
+  PartyRan-step laws input (AsDrainer d) gots puts act (AsUnit v) gots' puts' ran step takes gives = absurd step
+  PartyRan-step laws input (AsDrainer d) gots puts act (AsFeeder g) gots' puts' ran step takes gives = absurd step
+  PartyRan-step laws input (AsDrainer d) gots puts act (AsDrainer e) gots' puts' ran step takes gives = record {
+    acts = act ∷ ran.acts;
+    leads = (d, ran.leads, step);
+    takes = takes ∙ ap (took act) ran.takes;
+    gives = gives ∙ ap (gave act) ran.gives;
   }
 
   -- of a party that took and put the same
-  pub RunAt-same : (input input' : List Rec) (row row' : Row) (q q' : Party N) (gots gots' puts puts' : List (List Message))
-      → input' ≡ input → row' ≡ row → q' ≡ q → gots' ≡ gots → puts' ≡ puts → RunAt b input row q gots puts → RunAt b input' row' q' gots' puts'
-  RunAt-same input input' row row' q q' gots gots' puts puts' ei er eq eg ep run =
-      let r1 : RunAt b input' row q gots puts = subst (λ i. RunAt b i row q gots puts) (sym ei) run in
-      let r2 : RunAt b input' row' q gots puts = subst (λ r. RunAt b input' r q gots puts) (sym er) r1 in
-      let r3 : RunAt b input' row' q' gots puts = subst (λ x. RunAt b input' row' x gots puts) (sym eq) r2 in
-      let r4 : RunAt b input' row' q' gots' puts = subst (λ g. RunAt b input' row' q' g puts) (sym eg) r3 in
-      subst (λ p. RunAt b input' row' q' gots' p) (sym ep) r4
+  pub PartyRan-same : (input input' : List Rec) (q q' : Party U) (gots gots' puts puts' : List (List Message))
+      → input' ≡ input → q' ≡ q → gots' ≡ gots → puts' ≡ puts → PartyRan b input q gots puts → PartyRan b input' q' gots' puts'
+  PartyRan-same input input' q q' gots gots' puts puts' ei eq eg ep ran =
+      let r1 : PartyRan b input' q gots puts = subst (λ i. PartyRan b i q gots puts) (sym ei) ran in
+      let r2 : PartyRan b input' q' gots puts = subst (λ x. PartyRan b input' x gots puts) (sym eq) r1 in
+      let r3 : PartyRan b input' q' gots' puts = subst (λ g. PartyRan b input' q' g puts) (sym eg) r2 in
+      subst (λ p. PartyRan b input' q' gots' p) (sym ep) r3

@@ -1,41 +1,42 @@
--- What a step of a unit over its ports makes of the edges.
-use Rattle.std.proofs.Common.{◌≡◌, ℕ, List, [], ◌∷◌, length, slice_index_or, slice_set, refl, sym, ap, subst}
+-- What the ports of a unit tell of a step, said of the edges.
+use Rattle.std.proofs.Common.{◌≡◌, ℕ, List, length, slice_index_or, slice_set, refl, sym, ap, subst}
 use Rattle.std.specs.Borrow.{GName}
 use Rattle.ff_rec.specs.Lines.{Rec}
-use Rattle.ff_node.specs.Behaviour.{Behaviour}
-use Rattle.ff_node.specs.Runs.{OneEvent}
-use Rattle.ff_port.specs.Queues.{Queue, put_of, room_of}
+use Rattle.ff_port.specs.Queues.{Queue}
 use Rattle.ff_port.specs.declared.answers.Step.{Step}
-use Rattle.ff_unit.specs.Stage.{StageState}
-use Rattle.ff_unit.specs.StagePorts.{WaitsOnly}
-use Rattle.ff_unit.specs.StageSteps.{StageStep, StageAnswers}
-use Rattle.ff_steps.specs.Links.{edge_at, rest_of, RowLink, link_of}
+use Rattle.ff_unit.specs.Units.{Doing, Known, One, WaitsOnly, known}
+use Rattle.ff_steps.specs.Links.{gots_at, puts_at, knowns_at, rooms_at, rest_of, RowLink, link_of}
 use Rattle.ff_steps.specs.Moves.{UnitMoves}
+use Rattle.ff_steps.specs.Wiring.{Row, IsPortRow}
+
+-- a row by its two lists
+pub IsPortRow-seen : (row : Row) (ins outs : List ℕ) (edges : ℕ) → ins ≡ row.ins → outs ≡ row.outs → IsPortRow row edges → IsPortRow (record { ins = ins; outs = outs }) edges
+IsPortRow-seen row ins outs edges ei eo is =
+    subst (λ o. IsPortRow (record { ins = ins; outs = o }) edges) (sym eo) (subst (λ i. IsPortRow (record { ins = i; outs = row.outs }) edges) (sym ei) is)
 
 -- what the ports tell of a step, where the edges are `now` behind it
-record Told {N : Type 0} (b : Behaviour N) (old new : StageState N) (answer : Step) (edges : List (Queue Rec)) (from to : ℕ) (now : List (Queue Rec)) (f t : ℕ) : Type 0 where
-  pub one : OneEvent (StageStep b) StageAnswers old ((edge_at edges from).got ∷ []) (put_of (edge_at edges to) ∷ []) answer new ((edge_at now f).got ∷ []) (put_of (edge_at now t) ∷ [])
-  pub waits : WaitsOnly old answer
-      (length (edge_at edges from).inside ∷ []) (length (edge_at now f).inside ∷ [])
-      (room_of (edge_at edges to) ∷ []) (room_of (edge_at now t) ∷ []) 0
-  pub rest : rest_of now f t ≡ rest_of edges from to
+record Told {U : Type 0} (b : Doing U) (old new : U) (answer : Step) (edges : List (Queue Rec)) (ins outs : List ℕ) (now : List (Queue Rec)) (i o : List ℕ) : Type 0 where
+  pub one : One b old (gots_at edges ins) (puts_at edges outs) answer new (gots_at now i) (puts_at now o)
+  pub waits : WaitsOnly b old answer (known (knowns_at edges ins) (rooms_at edges outs) 0) (known (knowns_at now i) (rooms_at now o) 0)
+  pub rest : rest_of now i o ≡ rest_of edges ins outs
 
 -- the ports kept their loan, so that the edges are what they left
-pub UnitMoves-told : {N : Type 0} (b : Behaviour N) (p : ℕ) (units : List (StageState N)) (old new : StageState N) (answer : Step)
-    (name name' : GName) (edges now edges' : List (Queue Rec)) (from to f t : ℕ)
+pub UnitMoves-told : {U : Type 0} (b : Doing U) (p : ℕ) (row : Row) (units : List U) (old new : U) (answer : Step)
+    (name name' : GName) (edges now edges' : List (Queue Rec)) (ins outs i o : List ℕ)
+    → ins ≡ row.ins → outs ≡ row.outs
     → old ≡ slice_index_or units p old
-    → link_of name' now f t ≡ link_of name edges from to
+    → link_of name' now i o ≡ link_of name edges ins outs
     → (name ≡ name' → edges' ≡ now)
-    → OneEvent (StageStep b) StageAnswers old ((edge_at edges from).got ∷ []) (put_of (edge_at edges to) ∷ []) answer new ((edge_at now f).got ∷ []) (put_of (edge_at now t) ∷ [])
-    → WaitsOnly old answer
-    (length (edge_at edges from).inside ∷ []) (length (edge_at now f).inside ∷ [])
-    (room_of (edge_at edges to) ∷ []) (room_of (edge_at now t) ∷ []) 0
-    → UnitMoves b p from to units edges (slice_set units p new) edges'
-UnitMoves-told b p units old new answer name name' edges now edges' from to f t was link back one waits =
-    let told : Told b old new answer edges from to now f t = record { one = one; waits = waits; rest = ap (λ (l : RowLink). l.rest) link } in
-    let at_from : Told b old new answer edges from to now from t = subst (λ x. Told b old new answer edges from to now x t) (ap (λ (l : RowLink). l.from) link) told in
-    let at_to : Told b old new answer edges from to now from to = subst (λ x. Told b old new answer edges from to now from x) (ap (λ (l : RowLink). l.to) link) at_from in
-    let same : Told b old new answer edges from to edges' from to = subst (λ x. Told b old new answer edges from to x from to) (sym (back (sym (ap (λ (l : RowLink). l.name) link)))) at_to in
+    → One b old (gots_at edges ins) (puts_at edges outs) answer new (gots_at now i) (puts_at now o)
+    → WaitsOnly b old answer (known (knowns_at edges ins) (rooms_at edges outs) 0) (known (knowns_at now i) (rooms_at now o) 0)
+    → UnitMoves b p row units edges (slice_set units p new) edges'
+UnitMoves-told b p row units old new answer name name' edges now edges' ins outs i o ins_are outs_are was link back one waits =
+    let told : Told b old new answer edges ins outs now i o = record { one = one; waits = waits; rest = ap (λ (l : RowLink). l.rest) link } in
+    let at_ins : Told b old new answer edges ins outs now ins o = subst (λ x. Told b old new answer edges ins outs now x o) (ap (λ (l : RowLink). l.ins) link) told in
+    let at_outs : Told b old new answer edges ins outs now ins outs = subst (λ x. Told b old new answer edges ins outs now ins x) (ap (λ (l : RowLink). l.outs) link) at_ins in
+    let left : Told b old new answer edges ins outs edges' ins outs = subst (λ x. Told b old new answer edges ins outs x ins outs) (sym (back (sym (ap (λ (l : RowLink). l.name) link)))) at_outs in
+    let by_ins : Told b old new answer edges row.ins outs edges' row.ins outs = subst (λ x. Told b old new answer edges x outs edges' x outs) ins_are left in
+    let same : Told b old new answer edges row.ins row.outs edges' row.ins row.outs = subst (λ x. Told b old new answer edges row.ins x edges' row.ins x) outs_are by_ins in
     record {
       old = old;
       new = new;

@@ -2,71 +2,67 @@
 use Rattle.std.specs.Prelude.{◌≡◌, ℕ, ◌+◌, ◌<◌, Bool, true, false, ◌&&◌, ◌||◌, List, [], ◌∷◌, ◌++◌, map, length, replicate, slice_index_or, Option, None, Some}
 use Rattle.std.specs.List.{list_all, list_any, flat_map}
 use Rattle.ff_rec.specs.Lines.{Rec}
-use Rattle.ff_node.specs.Behaviour.{Behaviour}
-use Rattle.ff_node.specs.Runs.{Message, HasRun}
-use Rattle.ff_port.specs.Queues.{Queue, put_of, empty_queue}
+use Rattle.ff_node.specs.Runs.{Message}
+use Rattle.ff_port.specs.Queues.{Queue, empty_queue}
 use Rattle.ff_port.specs.declared.answers.End.{End}
 use Rattle.ff_port.specs.declared.answers.End.TheVariants.{Eos, Abort, Memory}
-use Rattle.ff_unit.specs.Stage.{StageState, opened_stage, opening_stage}
-use Rattle.ff_steps.specs.Parties.{Party, AsUnit, AsFeeder, AsDrainer, Feeder, Drainer, PartyStep, opening_party, has_ended}
-use Rattle.ff_steps.specs.Wiring.{Row, row_at, IsWired, line_rows}
+use Rattle.ff_unit.specs.Units.{Doing}
+use Rattle.ff_steps.specs.Links.{edge_at, gots_at, puts_at}
+use Rattle.ff_steps.specs.Parties.{Party, AsUnit, AsFeeder, AsDrainer, Feeder, Drainer, PartyRan, has_ended, opening_feeder, opening_drainer}
+use Rattle.ff_steps.specs.Wiring.{Row, row_at, IsWired, pipeline_rows}
 
-pub record CoreState (N : Type 0) : Type 0 where
-  -- what it was made of
-  pub nodes : List N
+-- `U` is what is seen of a unit
+pub record CoreState (U : Type 0) : Type 0 where
+  -- what it was made of: the units before their first steps, the input, and the edges that each party reads and writes
+  pub made : List U
   pub input : List Rec
-  pub cap : ℕ
-  pub keeps : Bool
   pub rows : List Row
   -- what it holds now
   pub edges : List (Queue Rec)
-  pub units : List (StageState N)
+  pub units : List U
   pub feeder : Feeder
   pub drainer : Drainer
 
 -- the units in their order, then the feeder, then the drainer
-abbrev pub parties : {N : Type 0} → CoreState N → List (Party N)
+abbrev pub parties : {U : Type 0} → CoreState U → List (Party U)
 parties c = map (λ u. AsUnit u) c.units ++ AsFeeder c.feeder ∷ AsDrainer c.drainer ∷ []
 
-abbrev pub party : {N : Type 0} → CoreState N → ℕ → Party N
+abbrev pub party : {U : Type 0} → CoreState U → ℕ → Party U
 party c p = slice_index_or (parties c) p (AsDrainer c.drainer)
 
 -- the edge with this number
-abbrev pub edge : {N : Type 0} → CoreState N → ℕ → Queue Rec
-edge c e = slice_index_or c.edges e (empty_queue 0)
+abbrev pub edge : {U : Type 0} → CoreState U → ℕ → Queue Rec
+edge c e = edge_at c.edges e
 
 -- what a party took at its ins, and what it put at its outs
-abbrev pub gots_of : {N : Type 0} → CoreState N → ℕ → List (List Message)
-gots_of c p = map (λ e. (edge c e).got) (row_at c.rows p).ins
+abbrev pub gots_of : {U : Type 0} → CoreState U → ℕ → List (List Message)
+gots_of c p = gots_at c.edges (row_at c.rows p).ins
 
-abbrev pub puts_of : {N : Type 0} → CoreState N → ℕ → List (List Message)
-puts_of c p = map (λ e. put_of (edge c e)) (row_at c.rows p).outs
+abbrev pub puts_of : {U : Type 0} → CoreState U → ℕ → List (List Message)
+puts_of c p = puts_at c.edges (row_at c.rows p).outs
 
--- each party is reached by its own steps from its opening state, and these took and put what its edges tell
-pub record IsSound {N : Type 0} (b : Behaviour N) (c : CoreState N) : Type 0 where
+-- each party is reached by its own steps, and these took and put what its edges tell
+pub record IsSound {U : Type 0} (b : Doing U) (c : CoreState U) : Type 0 where
   pub wired : IsWired c.rows (length c.edges)
-  pub made_of : map (opening_stage b) c.units ≡ map (λ o. opened_stage b o c.keeps) c.nodes
-  pub rows : length c.rows ≡ length (parties c)
-  pub ran : (p : ℕ) → p < length (parties c)
-      → HasRun (PartyStep b) (opening_party b c.input (party c p)) (length (row_at c.rows p).ins) (length (row_at c.rows p).outs) (party c p) (gots_of c p) (puts_of c p)
+  pub made_of : map b.opening c.units ≡ c.made
+  pub rows_are : length c.rows ≡ length (parties c)
+  pub ran : (p : ℕ) → p < length (parties c) → PartyRan b c.input (party c p) (gots_of c p) (puts_of c p)
 
--- a line of these nodes before its first event
-abbrev pub opened_line : {N : Type 0} → Behaviour N → List N → ℕ → Bool → List Rec → CoreState N
-opened_line b nodes cap keeps input = record {
-  nodes = nodes;
+-- a pipeline of these units before its first event
+abbrev pub opened_pipeline : {U : Type 0} → List U → ℕ → List Rec → CoreState U
+opened_pipeline units cap input = record {
+  made = units;
   input = input;
-  cap = cap;
-  keeps = keeps;
-  rows = line_rows (length nodes);
-  edges = replicate (length nodes + 1) (empty_queue cap);
-  units = map (λ o. opened_stage b o keeps) nodes;
-  feeder = record { left = input; refused = false; done = false };
-  drainer = record { output = []; refused = false; done = false };
+  rows = pipeline_rows (length units);
+  edges = replicate (length units + 1) (empty_queue cap);
+  units = units;
+  feeder = opening_feeder input;
+  drainer = opening_drainer;
 }
 
 -- whether all parties have ended
-abbrev pub all_ended : {N : Type 0} → CoreState N → Bool
-all_ended c = list_all has_ended (parties c)
+abbrev pub all_ended : {U : Type 0} → Doing U → CoreState U → Bool
+all_ended b c = list_all (has_ended b) (parties c)
 
 -- a unit that ended otherwise than by Eos
 abbrev pub is_cut_off : Option End → Bool
@@ -76,9 +72,12 @@ is_cut_off (Some Abort) = true
 is_cut_off (Some Memory) = true
 
 -- whether some unit ended by Memory or Abort, or the feeder or the drainer was refused memory
-abbrev pub is_short : {N : Type 0} → CoreState N → Bool
-is_short c = list_any (λ u. u.done && is_cut_off u.fin) c.units || (c.feeder.refused || c.drainer.refused)
+abbrev pub is_short : {U : Type 0} → Doing U → CoreState U → Bool
+is_short b c = list_any (λ u. b.done u && is_cut_off (b.fin u)) c.units || (c.feeder.refused || c.drainer.refused)
 
--- the rejects that the units hold, from the first unit on
-abbrev pub held_rejects : {N : Type 0} → CoreState N → List Rec
-held_rejects c = flat_map (λ u. u.kept) c.units
+-- the rejects that the units hold, and those that were taken out of them, from the first unit on
+abbrev pub held_rejects : {U : Type 0} → Doing U → CoreState U → List Rec
+held_rejects b c = flat_map b.kept c.units
+
+abbrev pub taken_rejects : {U : Type 0} → Doing U → CoreState U → List Rec
+taken_rejects b c = flat_map b.taken c.units

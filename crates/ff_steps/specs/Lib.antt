@@ -1,9 +1,9 @@
 pub mod Wiring
+pub mod Links
 pub mod Parties
 pub mod Core
 pub mod Events
-pub mod Links
 pub mod Moves
-pub mod Lined
 pub mod Rejects
 pub mod Seen
+pub mod Pipelines

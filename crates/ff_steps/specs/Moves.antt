@@ -1,15 +1,13 @@
 -- What a step of a party does to it and to its edges.
-use Rattle.std.specs.Prelude.{◌≡◌, ◌⊎◌, ℕ, Bool, true, false, List, [], ◌∷◌, length, drop, slice_index_or, slice_set}
+use Rattle.std.specs.Prelude.{◌≡◌, ◌⊎◌, ℕ, Bool, true, false, List, [], ◌∷◌, drop, slice_index_or, slice_set}
 use Rattle.ff_rec.specs.Lines.{Rec}
 use Rattle.ff_rec.specs.declared.msg.Msg.TheVariants.{Item, Eos, Abort}
-use Rattle.ff_node.specs.Behaviour.{Behaviour}
 use Rattle.ff_node.specs.Runs.{Message, Act, Took, Gave, Refused, Idle, Told, Handed, took, gave}
 use Rattle.ff_port.specs.Queues.{Queue, put_of, room_of}
 use Rattle.ff_port.specs.declared.answers.Step.{Step}
-use Rattle.ff_unit.specs.Stage.{StageState}
-use Rattle.ff_unit.specs.StagePorts.{WaitsOnly}
-use Rattle.ff_unit.specs.StageSteps.{StageStep, StageAnswers}
-use Rattle.ff_steps.specs.Links.{edge_at, rest_of}
+use Rattle.ff_unit.specs.Units.{Doing, Answers, WaitsOnly}
+use Rattle.ff_steps.specs.Links.{gots_at, puts_at, known_over, rest_of}
+use Rattle.ff_steps.specs.Wiring.{Row}
 use Rattle.ff_steps.specs.Parties.{Feeder, Drainer, FeederStep, DrainerStep}
 use Rattle.ff_steps.specs.declared.feeder.Feeder.{Feeder as Feeding}
 use Rattle.ff_steps.specs.declared.drainer.Drainer.{Drainer as Draining}
@@ -60,19 +58,17 @@ pub record DrainerMoves (d : Drainer) (q : Queue Rec) (e : Drainer) (r : Queue R
   pub put : put_of r ≡ put_of q
   pub cap : r.cap ≡ q.cap
 
--- one step of unit `p` between the edges `from` and `to`
-pub record UnitMoves {N : Type 0} (b : Behaviour N) (p from to : ℕ) (units : List (StageState N)) (edges : List (Queue Rec)) (units' : List (StageState N)) (edges' : List (Queue Rec)) : Type 0 where
-  pub old : StageState N
-  pub new : StageState N
+-- one step of unit `p` over the edges of its row
+pub record UnitMoves {U : Type 0} (b : Doing U) (p : ℕ) (row : Row) (units : List U) (edges : List (Queue Rec)) (units' : List U) (edges' : List (Queue Rec)) : Type 0 where
+  pub old : U
+  pub new : U
   pub was : old ≡ slice_index_or units p old
   pub is : units' ≡ slice_set units p new
   pub act : Act
   pub answer : Step
-  pub steps : StageStep b old act new
-  pub answers : StageAnswers new act answer
-  pub takes : (edge_at edges' from).got ∷ [] ≡ took act ((edge_at edges from).got ∷ [])
-  pub gives : put_of (edge_at edges' to) ∷ [] ≡ gave act (put_of (edge_at edges to) ∷ [])
-  pub waits : WaitsOnly old answer
-      (length (edge_at edges from).inside ∷ []) (length (edge_at edges' from).inside ∷ [])
-      (room_of (edge_at edges to) ∷ []) (room_of (edge_at edges' to) ∷ []) 0
-  pub rest : rest_of edges' from to ≡ rest_of edges from to
+  pub steps : b.Steps old act new
+  pub answers : Answers b new act answer
+  pub takes : gots_at edges' row.ins ≡ took act (gots_at edges row.ins)
+  pub gives : puts_at edges' row.outs ≡ gave act (puts_at edges row.outs)
+  pub waits : WaitsOnly b old answer (known_over edges row) (known_over edges' row)
+  pub rest : rest_of edges' row.ins row.outs ≡ rest_of edges row.ins row.outs

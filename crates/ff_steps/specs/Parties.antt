@@ -2,10 +2,8 @@
 use Rattle.std.specs.Prelude.{◌≡◌, ◌⊎◌, Bool, true, false, List, [], ◌∷◌, ◌++◌}
 use Rattle.ff_rec.specs.Lines.{Rec}
 use Rattle.ff_rec.specs.declared.msg.Msg.TheVariants.{Item, Mark, Pick, Eos, Abort}
-use Rattle.ff_node.specs.Behaviour.{Behaviour}
-use Rattle.ff_node.specs.Runs.{Message, Act, Took, Gave, Refused, Idle, Told, Handed}
-use Rattle.ff_unit.specs.Stage.{StageState, opening_stage}
-use Rattle.ff_unit.specs.StageSteps.{StageStep}
+use Rattle.ff_node.specs.Runs.{Message, Act, Took, Gave, Refused, Idle, Told, Handed, HasRun}
+use Rattle.ff_unit.specs.Units.{Doing, Ran}
 
 -- the feeder: the records that it didn't put yet, whether it was refused memory, and whether it has ended
 pub record Feeder : Type 0 where
@@ -19,10 +17,11 @@ pub record Drainer : Type 0 where
   pub refused : Bool
   pub done : Bool
 
-pub data Party (N : Type 0) : Type 0 where
-  AsUnit : (u : StageState N) → Party N
-  AsFeeder : (f : Feeder) → Party N
-  AsDrainer : (d : Drainer) → Party N
+-- `U` is what is seen of a unit
+pub data Party (U : Type 0) : Type 0 where
+  AsUnit : (u : U) → Party U
+  AsFeeder : (f : Feeder) → Party U
+  AsDrainer : (d : Drainer) → Party U
 
 -- the feeder puts the next record, Eos behind the last one, or Abort once it was refused memory; then it has ended
 abbrev pub FeederGives : Feeder → Message → Feeder → Type 0
@@ -57,8 +56,8 @@ DrainerStep d Told e = ⊥
 DrainerStep d (Handed x) e = ⊥
 
 -- a party steps as what it is, and stays that
-abbrev pub PartyStep : {N : Type 0} → Behaviour N → Party N → Act → Party N → Type 0
-PartyStep b (AsUnit u) act (AsUnit v) = StageStep b u act v
+abbrev pub PartyStep : {U : Type 0} → Doing U → Party U → Act → Party U → Type 0
+PartyStep b (AsUnit u) act (AsUnit v) = b.Steps u act v
 PartyStep b (AsUnit u) act (AsFeeder g) = ⊥
 PartyStep b (AsUnit u) act (AsDrainer e) = ⊥
 PartyStep b (AsFeeder f) act (AsUnit v) = ⊥
@@ -68,14 +67,21 @@ PartyStep b (AsDrainer d) act (AsUnit v) = ⊥
 PartyStep b (AsDrainer d) act (AsFeeder g) = ⊥
 PartyStep b (AsDrainer d) act (AsDrainer e) = DrainerStep d act e
 
--- a party as it was before its first step; a feeder had the whole input
-abbrev pub opening_party : {N : Type 0} → Behaviour N → List Rec → Party N → Party N
-opening_party b input (AsUnit u) = AsUnit (opening_stage b u)
-opening_party b input (AsFeeder f) = AsFeeder (record { left = input; refused = false; done = false })
-opening_party b input (AsDrainer d) = AsDrainer (record { output = []; refused = false; done = false })
+-- the feeder had the whole input before its first step, and the drainer nothing
+abbrev pub opening_feeder : List Rec → Feeder
+opening_feeder input = record { left = input; refused = false; done = false }
+
+abbrev pub opening_drainer : Drainer
+opening_drainer = record { output = []; refused = false; done = false }
+
+-- a party is reached by its own steps from what it was before its first one, and these took and put so
+abbrev pub PartyRan : {U : Type 0} → Doing U → List Rec → Party U → List (List Message) → List (List Message) → Type 0
+PartyRan b input (AsUnit u) gots puts = Ran b u gots puts
+PartyRan b input (AsFeeder f) gots puts = HasRun FeederStep (opening_feeder input) 0 1 f gots puts
+PartyRan b input (AsDrainer d) gots puts = HasRun DrainerStep opening_drainer 1 0 d gots puts
 
 -- whether a party has ended
-abbrev pub has_ended : {N : Type 0} → Party N → Bool
-has_ended (AsUnit u) = u.done
-has_ended (AsFeeder f) = f.done
-has_ended (AsDrainer d) = d.done
+abbrev pub has_ended : {U : Type 0} → Doing U → Party U → Bool
+has_ended b (AsUnit u) = b.done u
+has_ended b (AsFeeder f) = f.done
+has_ended b (AsDrainer d) = d.done

@@ -5,14 +5,16 @@ mod core_step;
 mod drainer;
 mod ends;
 mod feeder;
-mod line;
 mod net_core;
+mod pipeline;
 mod rejects;
+mod row;
 mod row_ports;
 mod schedule;
 mod unit_step;
 
 pub use net_core::Core;
+pub use pipeline::run_pipeline;
 pub use schedule::run_schedule;
 
 #[cfg(test)]

@@ -3,13 +3,12 @@ ghost use Rattle.std.specs.Prelude.{◌≡◌, sum_by};
 ghost use Rattle.ff_node.specs.Sends.{counted};
 ghost use Rattle.ff_steps.specs.Rejects.{Hands};
 
-use ff_node::Node;
 use ff_rec::Record;
-use ff_unit::Stage;
+use ff_unit::Unit;
 
 /// Their rejects together, up to 2^64 - 1.
-pub(crate) fn rejected<N: Node>(units: &[Stage<N>]) -> u64
-    ensures { result ≡ counted (sum_by (λ u. u.rejects) units.now) }
+pub(crate) fn rejected<U: Unit>(units: &[U]) -> u64
+    ensures { result ≡ counted (sum_by U.does.rejects units.now) }
 {
     let mut count = 0u64;
     for u in units {
@@ -19,8 +18,8 @@ pub(crate) fn rejected<N: Node>(units: &[Stage<N>]) -> u64
 }
 
 /// The first reject of the first unit that holds one, which is taken out.
-pub(crate) fn take_reject<N: Node>(units: &mut Vec<Stage<N>>) -> Option<Record>
-    ensures { Hands units.old.items result units.new.items }
+pub(crate) fn take_reject<U: Unit>(units: &mut Vec<U>) -> Option<Record>
+    ensures { Hands U.does units.old.items result units.new.items }
 {
     for p in 0..units.len() {
         if let Some(r) = units[p].take_reject() {

@@ -97,7 +97,7 @@ fn one_record_through_one_node(rt: HostRuntime) -> Result<(), Fail> {
 }
 
 #[test]
-fn rejects_along_the_line(rt: HostRuntime) -> Result<(), Fail> {
+fn rejects_along_the_pipeline(rt: HostRuntime) -> Result<(), Fail> {
     let mut nodes = Vec::new(rt.alloc());
     nodes.push(Gate { shut: false })?;
     nodes.push(Gate { shut: true })?;

@@ -1,8 +1,9 @@
-// Many random schedules of one line, whose middle node ends by itself.
+// Many random schedules of one pipeline, whose middle node ends by itself.
 use super::narrow::{Narrow, narrow_of};
-use crate::{Core, run_schedule};
+use crate::{Core, run_pipeline, run_schedule};
 use ff_node::Records;
 use ff_rec::{Field, Record, print_record};
+use ff_unit::Stage;
 use std::alloc::Global;
 use std::process::Abort;
 use std::test::Fail;
@@ -14,7 +15,7 @@ const OUTPUT: &[u8] = b"a\nb\n";
 
 const REJECTS: &[u8] = b"bad\nworse\n";
 
-fn line(rt: &impl Abort, alloc: Global, cap: u32) -> Result<Core<Narrow>, Fail> {
+fn pipeline(rt: &impl Abort, alloc: Global, cap: u32) -> Result<Core<Stage<Narrow>>, Fail> {
     let mut nodes = Vec::new(alloc);
     nodes.push(narrow_of(100))?;
     nodes.push(narrow_of(2))?;
@@ -46,7 +47,7 @@ fn ten(seed: &mut u32) -> [u32; 10] {
 }
 
 // The output so far, one record a line.
-fn output(alloc: Global, core: &Core<Narrow>) -> Result<Vec<u8>, Fail> {
+fn output(alloc: Global, core: &Core<Stage<Narrow>>) -> Result<Vec<u8>, Fail> {
     let mut text = Vec::new(alloc);
     for k in 0..core.output().len() {
         if let Some(r) = core.output().get(k) {
@@ -57,7 +58,7 @@ fn output(alloc: Global, core: &Core<Narrow>) -> Result<Vec<u8>, Fail> {
 }
 
 // The rejects, which are taken out, one record a line.
-fn rejects(alloc: Global, core: &mut Core<Narrow>) -> Result<Vec<u8>, Fail> {
+fn rejects(alloc: Global, core: &mut Core<Stage<Narrow>>) -> Result<Vec<u8>, Fail> {
     let mut text = Vec::new(alloc);
     for _ in 0..core.rejected() {
         if let Some(r) = core.take_reject() {
@@ -71,7 +72,7 @@ fn rejects(alloc: Global, core: &mut Core<Narrow>) -> Result<Vec<u8>, Fail> {
 fn run_tens(
     rt: &impl Abort,
     alloc: Global,
-    core: &mut Core<Narrow>,
+    core: &mut Core<Stage<Narrow>>,
     cap: u32,
     start: u32,
 ) -> Result<(), Fail> {
@@ -88,9 +89,9 @@ fn run_tens(
 }
 
 // Sweeps over the parties until all have ended, and answers whether they have.
-fn sweeps(core: &mut Core<Narrow>) -> bool {
+fn sweeps(core: &mut Core<Stage<Narrow>>) -> bool {
     for _ in 0..100 {
-        if run_schedule(core, &[0, 1, 2, 3, 4]) {
+        if run_pipeline(core, &[0, 1, 2, 3, 4]) {
             return true;
         }
     }
@@ -98,7 +99,7 @@ fn sweeps(core: &mut Core<Narrow>) -> bool {
 }
 
 fn runs_to_the_answer(rt: &impl Abort, alloc: Global, cap: u32, seed: u32) -> Result<(), Fail> {
-    let mut core = line(rt, alloc, cap)?;
+    let mut core = pipeline(rt, alloc, cap)?;
     run_tens(rt, alloc, &mut core, cap, seed)?;
     assert!(rt; sweeps(&mut core), "capacity {cap}, seed {seed}");
     assert!(rt; !core.short_of_memory(), "capacity {cap}, seed {seed}");

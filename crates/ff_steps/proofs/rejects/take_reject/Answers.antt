@@ -6,4 +6,4 @@ use Rattle.ff_steps.proofs.rejects.take_reject.Goals as goal
 pub returns-in-Some : goal.returns-in-Some
 returns-in-Some g c =
     let within : c.loop-p.p < length c.args.units.now.items = search rules in
-    HandsFirst-at _ _ _ _ _ _ c.loop-p.invariant.same within c.loop-p.invariant.below c.index_mut.ensures.value c.in-Some.ensures.taken
+    HandsFirst-at g.U.Unit.does _ _ _ _ _ _ c.loop-p.invariant.same within c.loop-p.invariant.below c.index_mut.ensures.value c.in-Some.ensures.taken
