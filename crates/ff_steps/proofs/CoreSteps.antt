@@ -91,9 +91,9 @@ module _ {U : Type 0} (b : Doing U) (rows : List Row) (edges : List (Queue Rec))
     pub some-edges : (0 < length edges) × (1 < length edges)
     some-edges = (
       subst (λ (r : Row). (i : ℕ) → i < length r.outs → slice_index r.outs i < length edges) row-feeder
-      (λ i i_low. sound.wired.outs_within (length units) i (low-row (length units) (omega (arith, length-parties c))) i_low) 0 (omega arith),
+          (λ i i_low. sound.wired.outs_within (length units) i (low-row (length units) (omega (arith, length-parties c))) i_low) 0 (omega arith),
       subst (λ (r : Row). (i : ℕ) → i < length r.ins → slice_index r.ins i < length edges) row-drainer
-      (λ i i_low. sound.wired.ins_within (suc (length units)) i (low-row (suc (length units)) (omega (arith, length-parties c))) i_low) 0 (omega arith),
+          (λ i i_low. sound.wired.ins_within (suc (length units)) i (low-row (suc (length units)) (omega (arith, length-parties c))) i_low) 0 (omega arith),
     )
 
     -- a unit has its ports and its run at its row
@@ -131,7 +131,7 @@ module _ {U : Type 0} (b : Doing U) (rows : List Row) (edges : List (Queue Rec))
       number = ap length moves.is ∙ length-set units p moves.new;
       made = (
         ap (λ us. map b.opening us) moves.is
-        ∙ map-set_same b.opening units p moves.new moves.old (laws.opening_kept moves.old moves.act moves.new moves.steps ∙ ap b.opening moves.was),
+            ∙ map-set_same b.opening units p moves.new moves.old (laws.opening_kept moves.old moves.act moves.new moves.steps ∙ ap b.opening moves.was),
         refl,
         refl,
       );

@@ -77,15 +77,15 @@ pub fn run_pipeline<N: Node>(core: &mut Core<Stage<N>>, schedule: &[u32]) -> boo
     ensures rejects { (nodes : List N) (keeps : Bool) → IsPipelineOf N.does nodes keeps core.old
         → result ≡ true → is_short (stage_does N.does) core.new ≡ false
         → counted (sum_by (λ u. u.rejects) core.new.units)
-            ≡ counted (length (pipeline_rejected N.does nodes core.new.input)) }
+        ≡ counted (length (pipeline_rejected N.does nodes core.new.input)) }
     ensures held { (nodes : List N) → IsPipelineOf N.does nodes true core.old
         → result ≡ true → is_short (stage_does N.does) core.new ≡ false
         → Same (taken_rejects (stage_does N.does) core.new ++ held_rejects (stage_does N.does) core.new)
-            (pipeline_rejected N.does nodes core.new.input) }
+        (pipeline_rejected N.does nodes core.new.input) }
     ensures held_of_one { (nodes : List N) → IsPipelineOf N.does nodes true core.old
         → result ≡ true → is_short (stage_does N.does) core.new ≡ false → length nodes ≡ 1
         → taken_rejects (stage_does N.does) core.new ++ held_rejects (stage_does N.does) core.new
-            ≡ pipeline_rejected N.does nodes core.new.input }
+        ≡ pipeline_rejected N.does nodes core.new.input }
 {
     run_schedule(core, schedule)
 }

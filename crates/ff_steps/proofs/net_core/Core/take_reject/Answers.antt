@@ -25,8 +25,8 @@ invariant_of-self g c =
     let few : length new ≤ 65536 = omega (arith, length-hands b g.met.U.Unit.sound i.units.items c.take_reject.result new c.take_reject.ensures, c.self.invariant.0) in (
       few,
       subst (IsSound b) (sym (core_of-units b i.rows.items i.edges.items i.units.items new i.feeder i.drainer
-      (made-hands b g.met.U.Unit.sound i.units.items c.take_reject.result new old refl c.take_reject.ensures)))
-      (IsSound-hands b g.met.U.Unit.sound old c.take_reject.result new c.take_reject.ensures c.self.invariant.1),
+          (made-hands b g.met.U.Unit.sound i.units.items c.take_reject.result new old refl c.take_reject.ensures)))
+          (IsSound-hands b g.met.U.Unit.sound old c.take_reject.result new c.take_reject.ensures c.self.invariant.1),
     )
 
 pub returns-clause-sound : goal.returns-clause-sound

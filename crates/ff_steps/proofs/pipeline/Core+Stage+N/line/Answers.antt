@@ -30,10 +30,12 @@ invariant_of-result g c =
     let count' : c.len-2.result ≡ length c.args.nodes.items = search rules in
     let some : 1 ≤ length c.args.nodes.items = omega (arith, c.requires.some, c.args.nodes.ok.0) in
     let few : length c.in_ok-units.units.items ≤ 65536 =
-    omega (arith, c.requires.few, c.args.nodes.ok.0, ap length c.in_ok-units.ensures, length-map c.args.nodes.items (λ o. opened_stage g.N.Node.does o c.args.keep)) in
-    (few, subst (IsSound (stage_does g.N.Node.does)) (sym (opened-parts g.N.Node.does g.met.N.Node.keeps_kind c.args.nodes.items c.args.cap c.args.keep c.args.input some
-    c.len.result c.len-2.result _ _ _ _ count count' c.in_ok-units.ensures c.in_ok-edges.ensures c.in_ok-rows.ensures c.new.ensures))
-    (IsSound-opened g.N.Node.does g.met.N.Node.keeps_kind c.args.nodes.items c.args.cap c.args.keep c.args.input some))
+    omega (arith, c.requires.few, c.args.nodes.ok.0, ap length c.in_ok-units.ensures, length-map c.args.nodes.items (λ o. opened_stage g.N.Node.does o c.args.keep)) in (
+      few,
+      subst (IsSound (stage_does g.N.Node.does)) (sym (opened-parts g.N.Node.does g.met.N.Node.keeps_kind c.args.nodes.items c.args.cap c.args.keep c.args.input some
+          c.len.result c.len-2.result _ _ _ _ count count' c.in_ok-units.ensures c.in_ok-edges.ensures c.in_ok-rows.ensures c.new.ensures))
+          (IsSound-opened g.N.Node.does g.met.N.Node.keeps_kind c.args.nodes.items c.args.cap c.args.keep c.args.input some),
+    )
 
 pub returns-clause-good : goal.returns-clause-good
 returns-clause-good g c =
