@@ -3,7 +3,8 @@ use Rattle.std.proofs.Common.{◌≡◌, ℕ, ◌^◌, List, [], ◌∷◌, ◌+
 use Rattle.std.specs.Prelude.{option_map}
 use Rattle.std.specs.Io.KnownBytes.{Consumes}
 use Rattle.ff_rec.specs.Limits.{ReadingLaw}
-use Rattle.ff_rec.specs.Reading.{Reading, after, opening, next, after-append}
+use Rattle.ff_rec.specs.Reading.{Reading, after, opening, next}
+use Rattle.ff_rec.specs.ReadingLaws.{after-append}
 use Rattle.ff_rec.specs.declared.fault.FeedFault.{FeedFault}
 use Rattle.ff_rec.specs.declared.fault.FeedFault.TheVariants.{Line}
 use Rattle.ff_rec.specs.declared.fault.LineFault.{LineFault}
