@@ -20,7 +20,8 @@ impl Drainer {
     /// Takes a message and keeps its record.
     pub(crate) fn step(&mut self, edges: &mut Vec<PlainQueue<Record>>)
         requires { 1 < vec_len edges.old }
-        ensures moves { DrainerMoves (drainer_of self.old) (edge_at edges.old.items 1) (drainer_of self.new) (edge_at edges.new.items 1) }
+        ensures moves { DrainerMoves (drainer_of self.old) (edge_at edges.old.items 1)
+            (drainer_of self.new) (edge_at edges.new.items 1) }
         ensures others { edges.new.items ≡ slice_set edges.old.items 1 (edge_at edges.new.items 1) }
     {
         self.step_at(&mut edges[1]);

@@ -23,7 +23,8 @@ impl Feeder {
     pub(crate) fn step(&mut self, edges: &mut Vec<PlainQueue<Record>>)
         requires some { 0 < vec_len edges.old }
         requires inner { self.old.done ≡ false → IsOpen (put_of (edge_at edges.old.items 0)) }
-        ensures moves { FeederMoves (feeder_of self.old) (edge_at edges.old.items 0) (feeder_of self.new) (edge_at edges.new.items 0) }
+        ensures moves { FeederMoves (feeder_of self.old) (edge_at edges.old.items 0)
+            (feeder_of self.new) (edge_at edges.new.items 0) }
         ensures others { edges.new.items ≡ slice_set edges.old.items 0 (edge_at edges.new.items 0) }
         ensures input { self.new.input ≡ self.old.input }
     {
@@ -47,7 +48,8 @@ impl Feeder {
 
     // What it puts next.
     fn next(&self) -> Result<Msg<Record>, NoMemory>
-        ensures next { IfOk result (λ m. m ≡ next_message self.now.refused (feeder_of self.now).left) }
+        ensures next { IfOk result
+            (λ m. m ≡ next_message self.now.refused (feeder_of self.now).left) }
         ensures refused { OnErr result (self.now.refused ≡ false) }
     {
         if self.refused {

@@ -35,10 +35,12 @@ impl<U: Unit> Model for Core<U> {
 
     ghost Value = { CoreState U };
 
-    ghost view = { λ c. core_of U.does c.rows.items c.edges.items c.units.items c.feeder c.drainer };
+    ghost view = { λ c.
+        core_of U.does c.rows.items c.edges.items c.units.items c.feeder c.drainer };
 
     ghost invariant = { λ c. (length c.units.items ≤ 65536)
-        × IsSound U.does (core_of U.does c.rows.items c.edges.items c.units.items c.feeder c.drainer) };
+        × IsSound U.does
+        (core_of U.does c.rows.items c.edges.items c.units.items c.feeder c.drainer) };
 }
 
 impl<U: Unit> Core<U> {

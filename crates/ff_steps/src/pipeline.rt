@@ -80,7 +80,8 @@ pub fn run_pipeline<N: Node>(core: &mut Core<Stage<N>>, schedule: &[u32]) -> boo
         ≡ counted (length (pipeline_rejected N.does nodes core.new.input)) }
     ensures held { (nodes : List N) → IsPipelineOf N.does nodes true core.old
         → result ≡ true → is_short (stage_does N.does) core.new ≡ false
-        → Same (taken_rejects (stage_does N.does) core.new ++ held_rejects (stage_does N.does) core.new)
+        → Same (taken_rejects (stage_does N.does) core.new
+        ++ held_rejects (stage_does N.does) core.new)
         (pipeline_rejected N.does nodes core.new.input) }
     ensures held_of_one { (nodes : List N) → IsPipelineOf N.does nodes true core.old
         → result ≡ true → is_short (stage_does N.does) core.new ≡ false → length nodes ≡ 1
@@ -92,7 +93,8 @@ pub fn run_pipeline<N: Node>(core: &mut Core<Stage<N>>, schedule: &[u32]) -> boo
 
 // A stage of each node.
 fn stages<N: Node>(alloc: Global, nodes: &Vec<N>, keep: bool) -> Result<Vec<Stage<N>>, NoMemory>
-    ensures { IfOk result (λ units. units.items ≡ map (λ o. opened_stage N.does o keep) nodes.now.items) }
+    ensures { IfOk result (λ units. units.items
+        ≡ map (λ o. opened_stage N.does o keep) nodes.now.items) }
 {
     let mut units = Vec::with_capacity(alloc, nodes.len())?;
     for node in nodes {

@@ -10,11 +10,16 @@ pub(crate) struct RowPorts<'a> {
     pub(crate) edges: &'a mut Vec<PlainQueue<Record>>,
     pub(crate) ins: &'a [usize],
     pub(crate) outs: &'a [usize],
-    ghost ins_within: { (i : ℕ) → i < length ins.now → slice_index ins.now i < length edges.now.items },
-    ghost outs_within: { (i : ℕ) → i < length outs.now → slice_index outs.now i < length edges.now.items },
-    ghost ins_differ: { (i j : ℕ) → i < length ins.now → j < length ins.now → slice_index ins.now i ≡ slice_index ins.now j → i ≡ j },
-    ghost outs_differ: { (i j : ℕ) → i < length outs.now → j < length outs.now → slice_index outs.now i ≡ slice_index outs.now j → i ≡ j },
-    ghost apart: { (i j : ℕ) → i < length ins.now → j < length outs.now → slice_index ins.now i ≡ slice_index outs.now j → ⊥ },
+    ghost ins_within: { (i : ℕ) → i < length ins.now
+        → slice_index ins.now i < length edges.now.items },
+    ghost outs_within: { (i : ℕ) → i < length outs.now
+        → slice_index outs.now i < length edges.now.items },
+    ghost ins_differ: { (i j : ℕ) → i < length ins.now → j < length ins.now
+        → slice_index ins.now i ≡ slice_index ins.now j → i ≡ j },
+    ghost outs_differ: { (i j : ℕ) → i < length outs.now → j < length outs.now
+        → slice_index outs.now i ≡ slice_index outs.now j → i ≡ j },
+    ghost apart: { (i j : ℕ) → i < length ins.now → j < length outs.now
+        → slice_index ins.now i ≡ slice_index outs.now j → ⊥ },
 }
 
 impl Ports<Record> for RowPorts<'_> {
@@ -59,11 +64,14 @@ impl Ports<Record> for RowPorts<'_> {
     fn try_put(&mut self, k: usize, m: Msg<Record>) -> Put<Record>
         requires within { k < length (puts_at self.old.edges.now.items self.old.outs.now) }
         requires inner { IsOpen (at (puts_at self.old.edges.now.items self.old.outs.now) k) }
-        ensures link { link_of self.new.edges.ghost_name self.new.edges.now.items self.new.ins.now self.new.outs.now
-            ≡ link_of self.old.edges.ghost_name self.old.edges.now.items self.old.ins.now self.old.outs.now }
-        ensures puts { PutsAt true k
-            (puts_at self.old.edges.now.items self.old.outs.now) (rooms_at self.old.edges.now.items self.old.outs.now) m result
-            (puts_at self.new.edges.now.items self.new.outs.now) (rooms_at self.new.edges.now.items self.new.outs.now) }
+        ensures link { link_of self.new.edges.ghost_name self.new.edges.now.items
+            self.new.ins.now self.new.outs.now
+            ≡ link_of self.old.edges.ghost_name self.old.edges.now.items
+            self.old.ins.now self.old.outs.now }
+        ensures puts { PutsAt true k (puts_at self.old.edges.now.items self.old.outs.now)
+            (rooms_at self.old.edges.now.items self.old.outs.now) m result
+            (puts_at self.new.edges.now.items self.new.outs.now)
+            (rooms_at self.new.edges.now.items self.new.outs.now) }
         ensures others { OthersStay k (rooms_at self.old.edges.now.items self.old.outs.now)
             (rooms_at self.new.edges.now.items self.new.outs.now) }
         ensures gots { gots_at self.new.edges.now.items self.new.ins.now

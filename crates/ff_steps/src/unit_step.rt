@@ -22,8 +22,10 @@ pub(crate) fn step_unit<U: Unit>(
     requires row_within { p < vec_len rows.now }
     requires wired { IsPortRow (row_at rows.now.items p) (length edges.old.items) }
     requires ran { (u : U) → u ≡ slice_index_or units.old.items p u
-        → Ran U.does u (gots_at edges.old.items (row_at rows.now.items p).ins) (puts_at edges.old.items (row_at rows.now.items p).outs) }
-    ensures { UnitMoves U.does p (row_at rows.now.items p) units.old.items edges.old.items units.new.items edges.new.items }
+        → Ran U.does u (gots_at edges.old.items (row_at rows.now.items p).ins)
+        (puts_at edges.old.items (row_at rows.now.items p).outs) }
+    ensures { UnitMoves U.does p (row_at rows.now.items p)
+        units.old.items edges.old.items units.new.items edges.new.items }
 {
     let row = &rows[p];
     let mut ports = RowPorts {

@@ -8,7 +8,8 @@ use ff_rec::{Msg, Record};
 /// Puts Abort on each out.
 pub(crate) fn put_aborts<P: Ports<Record>>(ports: &mut P)
     requires none { P.puts ports.old ≡ replicate (length (P.puts ports.old)) [] }
-    requires room { (k : ℕ) → k < length (P.puts ports.old) → 0 < slice_index (P.rooms ports.old) k }
+    requires room { (k : ℕ) → k < length (P.puts ports.old)
+        → 0 < slice_index (P.rooms ports.old) k }
     ensures puts { P.puts ports.new ≡ replicate (length (P.puts ports.old)) (AbortMsg ∷ []) }
     ensures gots { P.gots ports.new ≡ P.gots ports.old }
     ensures link { P.link ports.new ≡ P.link ports.old }

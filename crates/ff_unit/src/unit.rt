@@ -64,7 +64,8 @@ pub trait Unit: Drop {
         ensures begins { BeginsToFit (does.Fits self.new) (P.gots ports.new) (P.puts ports.new) }
         ensures fits { result ≡ Step.Ended End.Eos
             → FitsWhole (does.Fits self.new) (P.gots ports.new) (P.puts ports.new) }
-        ensures rejects { result ≡ Step.Ended End.Eos → HasRejects does self.new (P.gots ports.new) }
+        ensures rejects { result ≡ Step.Ended End.Eos
+            → HasRejects does self.new (P.gots ports.new) }
         ensures aborts { result ≡ Step.Ended End.Abort
             → (does.told self.new ≡ true) ⊎ TookAbort (P.gots ports.new) }
 

@@ -12,7 +12,8 @@ pub fn take_held(
     back: &mut Option<Msg<Record>>,
 ) -> Option<Msg<Record>>
     ensures front { front.new ≡ None }
-    ensures taken { TakesHeld (held_of front.old sends.old.sends back.old) result (held_of None sends.new.sends back.new) }
+    ensures taken { TakesHeld (held_of front.old sends.old.sends back.old) result
+        (held_of None sends.new.sends back.new) }
     ensures rest { sends.new ≡ record sends.old { sends = sends.new.sends } }
 {
     if let Some(m) = front.take() {

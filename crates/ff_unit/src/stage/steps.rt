@@ -19,8 +19,10 @@ impl<N: Node> Stage<N> {
         ensures waits { WaitsOnly (stage_does N.does) self.old result
             (known (P.knowns ports.old) (P.rooms ports.old) (P.waiting ports.old))
             (known (P.knowns ports.new) (P.rooms ports.new) (P.waiting ports.new)) }
-        ensures ended { EndedOnly (stage_does N.does) self.old result self.new (P.waiting ports.new) }
-        ensures again { self.old.done ≡ true → StaysAt self.old (P.gots ports.old) (P.puts ports.old)
+        ensures ended { EndedOnly (stage_does N.does) self.old result
+            self.new (P.waiting ports.new) }
+        ensures again { self.old.done ≡ true
+            → StaysAt self.old (P.gots ports.old) (P.puts ports.old)
             self.new (P.gots ports.new) (P.puts ports.new) }
         ensures link { P.link ports.new ≡ P.link ports.old }
     {
@@ -41,7 +43,8 @@ impl<N: Node> Stage<N> {
         ensures waits { WaitsOnly (stage_does N.does) self.old result
             (known (P.knowns ports.old) (P.rooms ports.old) (P.waiting ports.old))
             (known (P.knowns ports.new) (P.rooms ports.new) (P.waiting ports.new)) }
-        ensures ended { EndedOnly (stage_does N.does) self.old result self.new (P.waiting ports.new) }
+        ensures ended { EndedOnly (stage_does N.does) self.old result
+            self.new (P.waiting ports.new) }
         ensures link { P.link ports.new ≡ P.link ports.old }
     {
         match ports.try_take(0) {
@@ -63,7 +66,8 @@ impl<N: Node> Stage<N> {
         ensures waits { WaitsOnly (stage_does N.does) self.old result
             (known (P.knowns ports.old) (P.rooms ports.old) (P.waiting ports.old))
             (known (P.knowns ports.new) (P.rooms ports.new) (P.waiting ports.new)) }
-        ensures ended { EndedOnly (stage_does N.does) self.old result self.new (P.waiting ports.new) }
+        ensures ended { EndedOnly (stage_does N.does) self.old result
+            self.new (P.waiting ports.new) }
         ensures link { P.link ports.new ≡ P.link ports.old }
     {
         if ports.flush() {

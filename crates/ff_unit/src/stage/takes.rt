@@ -82,7 +82,8 @@ impl<N: Node> Stage<N> {
     // The node ends with its in.
     fn close(&mut self)
         requires held { self.old.held ≡ [] }
-        ensures { (self.new ≡ closes N.does self.old self.old.node [] [] (Some End.Eos)) ⊎ GivesUp N.does self.old (Some End.Memory) self.new }
+        ensures { (self.new ≡ closes N.does self.old self.old.node [] [] (Some End.Eos))
+            ⊎ GivesUp N.does self.old (Some End.Memory) self.new }
     {
         let keeps = self.sends.keeps();
         match node_end(&mut self.node, &mut self.sends) {
