@@ -110,17 +110,16 @@ fn texts_at_their_limits(rt: HostRuntime) -> Result<(), Fail> {
     expect_fault(&rt, alloc, &nested(alloc, 17)?, 75, TextKind::Deep);
     let mut marks = Vec::new(alloc);
     let mut blanks = Vec::from_slice(alloc, b"id")?;
-    for _ in 0..65_536 {
+    for _ in 2..65_536 {
         marks.push(b'(')?;
         blanks.push(b' ')?;
     }
     expect_fault(&rt, alloc, &marks, 0, TextKind::BadToken);
-    expect_read(&rt, alloc, &blanks[..65_536]);
-    for text in [blanks.as_slice(), &blanks[..65_537]] {
-        match read_net(alloc, text) {
-            Ok(_) => panic!(&rt; "it is read"),
-            Err(fault) => assert_eq!(&rt; fault, ReadFault::TooLong),
-        }
+    expect_read(&rt, alloc, &blanks);
+    blanks.push(b' ')?;
+    match read_net(alloc, &blanks) {
+        Ok(_) => panic!(&rt; "it is read"),
+        Err(fault) => assert_eq!(&rt; fault, ReadFault::TooLong),
     }
     let text = b"pipe(add 1 5, farm 2 rr (id))";
     expect_read(&rt, alloc, text.as_slice());
