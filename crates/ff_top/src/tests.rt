@@ -155,10 +155,26 @@ fn check_case(rt: &impl Abort, alloc: Global, case: &Case, by: Setting) -> Resul
 fn check_networks(rt: &impl Abort, alloc: Global, table: &str, any: bool) -> Result<(), Fail> {
     for mut case in cases_of(rt, alloc, table)? {
         check_network(rt, alloc, &case, any)?;
-        case.words.insert(1, String::from_str(alloc, "--one")?)?;
+        case.words = words_behind(alloc, "run", "--one", &case.words)?;
         check_network(rt, alloc, &case, any)?;
     }
     Ok(())
+}
+
+// These words but the first, behind two others.
+fn words_behind(
+    alloc: Global,
+    first: &str,
+    second: &str,
+    words: &[String],
+) -> Result<Vec<String>, Fail> {
+    let mut list = Vec::new(alloc);
+    list.push(String::from_str(alloc, first)?)?;
+    list.push(String::from_str(alloc, second)?)?;
+    for word in words.iter().skip(1) {
+        list.push(String::from_str(alloc, word.as_str())?)?;
+    }
+    Ok(list)
 }
 
 // Makes the call of a case, and compares.

@@ -76,28 +76,21 @@ fn each_read_fails(rt: HostRuntime) -> Result<(), Fail> {
 #[test]
 fn each_budget_of_the_output(rt: HostRuntime) -> Result<(), Fail> {
     let whole = b"2\n3\n4\n";
-    for (short, out) in [
-        (1, 0),
-        (1, 1),
-        (1, 4),
-        (1, 6),
-        (9, 0),
-        (9, 1),
-        (9, 4),
-        (9, 6),
-    ] {
-        let done = out == whole.len();
-        let want = Want {
-            status: if done { 0 } else { 4 },
-            out: &whole[..out],
-            err: if done { b"" } else { b"ffrun: write fault\n" },
-        };
-        let by = Setting {
-            out,
-            short,
-            ..SOUND
-        };
-        check(&rt, rt.alloc(), &["run", "add 1 1"], b"1\n2\n3\n", by, want)?;
+    for short in [1, 200_000] {
+        for out in 0..7 {
+            let done = out == whole.len();
+            let want = Want {
+                status: if done { 0 } else { 4 },
+                out: &whole[..out],
+                err: if done { b"" } else { b"ffrun: write fault\n" },
+            };
+            let by = Setting {
+                out,
+                short,
+                ..SOUND
+            };
+            check(&rt, rt.alloc(), &["run", "add 1 1"], b"1\n2\n3\n", by, want)?;
+        }
     }
     Ok(())
 }

@@ -1,5 +1,5 @@
 // Texts in words and in files: printed forms, and what is said of texts that are no network's.
-use super::{SOUND, Setting, Want, call, check, check_case, check_table};
+use super::{SOUND, Setting, Want, call, check, check_case, check_table, words_behind};
 use crate::tests::cases::cases_of;
 use std::alloc::Global;
 use std::process::Abort;
@@ -130,8 +130,7 @@ fn texts_by_tables(rt: HostRuntime) -> Result<(), Fail> {
     check_table(&rt, alloc, PRINTED, UNREAD)?;
     for mut case in cases_of(&rt, alloc, REFUSED)? {
         check_case(&rt, alloc, &case, UNREAD)?;
-        case.words.remove(0);
-        case.words.insert(0, String::from_str(alloc, "run")?)?;
+        case.words = words_behind(alloc, "run", "--one", &case.words)?;
         check_case(&rt, alloc, &case, UNREAD)?;
     }
     // What is printed is itself printed so.
@@ -254,18 +253,18 @@ fn pipelines_of_64_and_65_parts(rt: HostRuntime) -> Result<(), Fail> {
 fn each_proper_prefix_is_refused(rt: HostRuntime) -> Result<(), Fail> {
     let alloc = rt.alloc();
     let text = b"pipe(add 1 5, farm 2 rr (id))";
-    let case = cases_of(&rt, alloc, FILES)?;
-    assert!(&rt; !case.is_empty());
-    for len in 0..text.len() {
-        let by = Setting {
-            file: &text[..len],
-            ..UNREAD
-        };
-        let answer = call(&rt, alloc, &case[0].words, b"1\n", by)?;
-        assert_eq!(&rt; answer.status, 2, "{len} bytes");
-        assert_eq!(&rt; answer.out(), b"".as_slice(), "{len} bytes");
-        // Each prefix may go on, so that its end is what is told, but for one that ends within a word.
-        assert!(&rt; answer.err().starts_with(b"ffrun: byte "), "{len} bytes");
+    for case in cases_of(&rt, alloc, FULL_FILES)? {
+        for len in 0..text.len() {
+            let by = Setting {
+                file: &text[..len],
+                ..UNREAD
+            };
+            let answer = call(&rt, alloc, &case.words, b"1\n", by)?;
+            assert_eq!(&rt; answer.status, 2, "{len} bytes");
+            assert_eq!(&rt; answer.out(), b"".as_slice(), "{len} bytes");
+            // Each prefix may go on, so that its end is what is told, but for one that ends within a word.
+            assert!(&rt; answer.err().starts_with(b"ffrun: byte "), "{len} bytes");
+        }
     }
     Ok(())
 }
