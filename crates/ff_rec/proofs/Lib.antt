@@ -1,4 +1,5 @@
 pub mod Cuts
+pub mod Nears
 pub mod Separators
 pub mod Digits
 pub mod Reading

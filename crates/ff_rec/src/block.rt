@@ -7,7 +7,7 @@ ghost use Rattle.ff_rec.specs.Stored.{stored_as};
 mod edits;
 
 use crate::bytes::Bytes;
-use crate::{NoMemory, split};
+use crate::{NoMemory, split_near};
 pub use edits::{exchange, keep, take_out};
 
 /// Where field `k` of a block of `count` fields, counted from 0, begins and ends.
@@ -20,7 +20,7 @@ pub fn place(block: &[u8], count: usize, k: usize) -> (usize, usize)
     if k + 1 == count {
         return (start, block.len());
     }
-    let (field, _) = split(&block[start..], b'\t');
+    let (field, _) = split_near(&block[start..], b'\t');
     (start, start + field.len())
 }
 
@@ -31,7 +31,7 @@ fn start_of(block: &[u8], k: usize) -> usize
 {
     let mut start = 0;
     for i in 0..k {
-        let (field, _) = split(&block[start..], b'\t');
+        let (field, _) = split_near(&block[start..], b'\t');
         start += field.len() + 1;
     }
     start

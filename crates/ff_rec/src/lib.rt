@@ -27,6 +27,6 @@ pub use limits::{LONGEST_INPUT, LONGEST_LINE_ONE, LONGEST_LINE_TWO, LONGEST_TEXT
 pub use line_reader::LineReader;
 pub use msg::Msg;
 pub use number::{print_number, read_number};
-pub use pieces::split;
+pub use pieces::{split, split_near};
 pub use record::{Record, print_record};
 pub use records::{Records, copies};

@@ -13,6 +13,6 @@ returns-then-k-count c =
 pub returns : goal.returns
 returns c =
     let start = c.start_of-start.result in
-    IsPlace-here c.args.block.now c.args.k start c.split.result.0.now c.split.result.1 c.start_of-start.ensures
-    (ap (cut 9) (sym (take_rest c.args.block.now start)) ∙ c.split.ensures.pieces)
-    (sym (take_rest c.args.block.now start) ∙ c.split.ensures.whole)
+    IsPlace-here c.args.block.now c.args.k start c.split_near.result.0.now c.split_near.result.1 c.start_of-start.ensures
+    (ap (cut 9) (sym (take_rest c.args.block.now start)) ∙ c.split_near.ensures.pieces)
+    (sym (take_rest c.args.block.now start) ∙ c.split_near.ensures.whole)
