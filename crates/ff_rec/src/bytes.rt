@@ -1,13 +1,16 @@
 // The bytes of a record and the number of its fields: in place where the bytes are few, else in one heap block.
-ghost use Rattle.std.specs.Prelude.{◌≡◌, ◌++◌, ◌≤◌, length, take, drop, slice_range, IfOk, OnOk, OnErr};
+ghost use Rattle.std.specs.Prelude.{◌≡◌, ◌+◌, ◌++◌, ◌<◌, ◌≤◌, length, take, drop, slice_range, IfOk, OnOk, OnErr, IsErrOf};
 ghost use Rattle.ff_rec.specs.Block.{parts_swapped, replaced};
+ghost use Rattle.ff_rec.specs.Lines.{tabs};
 ghost use Rattle.ff_rec.specs.Stored.{stored_as};
+ghost use Rattle.ff_rec.specs.declared.fault.CutFault.TheVariants.{TooManyFields};
 
 mod long;
 mod parts;
 mod short;
 
-use crate::NoMemory;
+use crate::tabs::count_tabs;
+use crate::{CutFault, MOST_FIELDS, NoMemory};
 use long::{keep, narrow, replace};
 use parts::swap_parts;
 pub use short::SHORT;
@@ -60,6 +63,33 @@ impl Bytes {
             Held::Many(count, Vec::from_slice(alloc, bytes)?)
         };
         Ok(Bytes { held, alloc })
+    }
+
+    /// The bytes of a line, with the number of its fields.
+    #[inline]
+    pub fn of_line(alloc: Global, line: &[u8]) -> Result<Bytes, CutFault>
+        ensures ok { IfOk result (λ b. b ≡ stored_as line.now (tabs line.now + 1)) }
+        ensures few { OnOk result (tabs line.now ≤ 63) }
+        ensures too_many { IsErrOf result TooManyFields → 63 < tabs line.now }
+    {
+        if line.len() <= SHORT {
+            let (short, tab_count) = Short::of_line(line);
+            return Ok(Bytes {
+                held: Held::Few(tab_count + 1, short),
+                alloc,
+            });
+        }
+        let count = count_tabs(line) + 1;
+        if MOST_FIELDS < count {
+            return Err(CutFault::TooManyFields);
+        }
+        match Vec::from_slice(alloc, line) {
+            Ok(block) => Ok(Bytes {
+                held: Held::Many(count as u8, block),
+                alloc,
+            }),
+            Err(_) => Err(CutFault::NoMemory),
+        }
     }
 
     /// An equal value.

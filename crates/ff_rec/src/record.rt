@@ -13,7 +13,6 @@ mod tests;
 
 use crate::block::{place, push_field, put};
 use crate::bytes::Bytes;
-use crate::tabs::count_tabs;
 use crate::{CutFault, Field, Kept, MOST_FIELDS, NoMemory, PushFault, read_number};
 use itoa::Buffer;
 use std::alloc::Global;
@@ -64,14 +63,9 @@ impl Record {
         ensures too_many { IsErrOf result TooManyFields → 63 < tabs line.now }
         ensures few { OnOk result (tabs line.now ≤ 63) }
     {
-        let count = count_tabs(line) + 1;
-        if MOST_FIELDS < count {
-            return Err(CutFault::TooManyFields);
-        }
-        match Bytes::of(alloc, line, count as u8) {
-            Ok(block) => Ok(Record { block }),
-            Err(NoMemory) => Err(CutFault::NoMemory),
-        }
+        Ok(Record {
+            block: Bytes::of_line(alloc, line)?,
+        })
     }
 
     /// How many fields it has.

@@ -20,8 +20,9 @@ pub fn count_tabs(line: &[u8]) -> usize
     count
 }
 
-// How many tabs stand in a part that is short enough for its count to be a byte.
-fn count_few(part: &[u8]) -> u8
+/// How many tabs stand in a part that is short enough for its count to be a byte.
+#[inline]
+pub fn count_few(part: &[u8]) -> u8
     requires { length part.now ≤ PART }
     ensures count { result ≡ tabs part.now }
     ensures within { result ≤ length part.now }

@@ -1,8 +1,10 @@
 // A few bytes that stand in place.
 ghost use Rattle.std.specs.Prelude.{◌≡◌, ◌+◌, ◌-◌, ◌++◌, ◌≤◌, length, take, drop, slice_range};
 ghost use Rattle.ff_rec.specs.Block.{parts_swapped, replaced};
+ghost use Rattle.ff_rec.specs.Lines.{tabs};
 
 use super::parts::swap_parts;
+use crate::tabs::count_few;
 use std::marker::Model;
 
 /// So many bytes have room in place. With their length and what stands before them they fill 48 bytes.
@@ -41,6 +43,26 @@ impl Short {
             len: bytes.len() as u8,
             bytes: room,
         }
+    }
+
+    /// The bytes of a line, and how many tabs stand among them.
+    #[inline]
+    pub fn of_line(line: &[u8]) -> (Short, u8)
+        requires { length line.now ≤ SHORT }
+        ensures bytes { result.0 ≡ line.now }
+        ensures tabs { result.1 ≡ tabs line.now }
+        ensures within { result.1 ≤ SHORT }
+    {
+        let mut room = [0; SHORT];
+        room[..line.len()].copy_from_slice(line);
+        // All of the room is counted, which takes no loop. Behind the line it holds zeros.
+        let tab_count = count_few(&room);
+        let short = Short {
+            align: [],
+            len: line.len() as u8,
+            bytes: room,
+        };
+        (short, tab_count)
     }
 
     /// The bytes.
