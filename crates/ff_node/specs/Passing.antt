@@ -1,8 +1,13 @@
 -- What is gathered when all records that were sent are given to a part of a comb, or pass through all parts.
-use Rattle.std.specs.Prelude.{List}
+use Rattle.std.specs.Prelude.{List, [], ◌∷◌}
 use Rattle.ff_node.specs.Behaviour.{Behaviour}
 use Rattle.ff_node.specs.Comb.{Part, part_sends, part_rejects, part_total, part_total_rejects, through, through_rejects, total, total_rejects}
+use Rattle.ff_rec.specs.Lines.{Rec}
 use Rattle.ff_node.specs.Sends.{Sent, add, rejects_alone}
+
+-- this record stands alone among what was sent
+abbrev pub sent_alone : Rec → Sent → Sent
+sent_alone r out = record out { sends = r ∷ [] }
 
 -- a part took them: what it sent stands in their place
 abbrev pub fed : {N : Type 0} → Behaviour N → Part N → Sent → Sent

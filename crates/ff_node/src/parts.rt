@@ -1,7 +1,7 @@
 // Records on their way through the parts of a comb: what is sent by one part is given to the next.
-ghost use Rattle.std.specs.Prelude.{◌≡◌, ◌≤◌, ◌∷◌, [], map, length, OnOk};
+ghost use Rattle.std.specs.Prelude.{◌≡◌, ◌≤◌, ◌∷◌, ◌++◌, [], map, length, take, drop, OnOk};
 ghost use Rattle.ff_node.specs.Comb.{part, parts, part_after, through_after, through, through_rejects, total, total_rejects};
-ghost use Rattle.ff_node.specs.Passing.{fed, fed_last, passed, passed_last};
+ghost use Rattle.ff_node.specs.Passing.{fed, fed_last, passed, passed_last, sent_alone};
 ghost use Rattle.ff_node.specs.Sends.{add};
 
 use crate::{Node, Sends, node_step};
@@ -56,14 +56,57 @@ pub(crate) fn pass<N: Node>(
         (through_rejects N.does (parts nodes.old ended.old) (r ∷ []))) }
 {
     if out.len() == 0 {
-        out.send(r)?;
-        pass_all(nodes, ended, out)?;
-        return Ok(());
+        return pass_one(nodes, ended, r, out);
     }
     let before = out.take_queue()?;
     out.send(r)?;
-    pass_all(nodes, ended, out)?;
+    pass_all(nodes, ended, 0, out)?;
     out.put_before(before)?;
+    Ok(())
+}
+
+// A record through all parts, where nothing was sent before it. The first part takes it at once.
+fn pass_one<N: Node>(
+    nodes: &mut [N],
+    ended: &mut [bool],
+    r: Record,
+    out: &mut Sends,
+) -> Result<(), NoMemory>
+    requires flags { length nodes.old ≤ length ended.old }
+    requires empty { out.old.sends ≡ [] }
+    ensures kind { map N.does.opening nodes.new ≡ map N.does.opening nodes.old }
+    ensures state { OnOk result
+        (parts nodes.new ended.new ≡ through_after N.does (parts nodes.old ended.old) (r ∷ [])) }
+    ensures sends { OnOk result (out.new
+        ≡ passed N.does (parts nodes.old ended.old) (sent_alone r out.old)) }
+{
+    if nodes.is_empty() {
+        return out.send(r);
+    }
+    give(&mut nodes[0], &mut ended[0], r, out)?;
+    pass_all(nodes, ended, 1, out)
+}
+
+// A record to a part, where nothing was sent before it; one that has ended drops it.
+#[inline]
+fn give<N: Node>(
+    node: &mut N,
+    ended: &mut bool,
+    r: Record,
+    out: &mut Sends,
+) -> Result<(), NoMemory>
+    requires empty { out.old.sends ≡ [] }
+    ensures kind { N.does.opening node.new ≡ N.does.opening node.old }
+    ensures state { OnOk result
+        (part node.new ended.new ≡ part_after N.does (part node.old ended.old) (r ∷ [])) }
+    ensures sends { OnOk result (out.new
+        ≡ fed N.does (part node.old ended.old) (sent_alone r out.old)) }
+{
+    if *ended {
+        drop(r);
+    } else {
+        *ended = node_step(node, r, out)?.is_eos();
+    }
     Ok(())
 }
 
@@ -89,15 +132,23 @@ pub(crate) fn finish<N: Node>(
     Ok(())
 }
 
-// The records in `out` through all parts: what comes out behind the last is in their place then.
-fn pass_all<N: Node>(nodes: &mut [N], ended: &mut [bool], out: &mut Sends) -> Result<(), NoMemory>
+// The records in `out` through the parts from one on: what comes out behind the last is in their place then.
+fn pass_all<N: Node>(
+    nodes: &mut [N],
+    ended: &mut [bool],
+    from: usize,
+    out: &mut Sends,
+) -> Result<(), NoMemory>
     requires flags { length nodes.old ≤ length ended.old }
+    requires within { from ≤ length nodes.old }
     ensures kind { map N.does.opening nodes.new ≡ map N.does.opening nodes.old }
-    ensures state { OnOk result
-        (parts nodes.new ended.new ≡ through_after N.does (parts nodes.old ended.old) out.old.sends) }
-    ensures sends { OnOk result (out.new ≡ passed N.does (parts nodes.old ended.old) out.old) }
+    ensures state { OnOk result (parts nodes.new ended.new
+        ≡ take from (parts nodes.old ended.old)
+        ++ through_after N.does (drop from (parts nodes.old ended.old)) out.old.sends) }
+    ensures sends { OnOk result (out.new
+        ≡ passed N.does (drop from (parts nodes.old ended.old)) out.old) }
 {
-    for i in 0..nodes.len() {
+    for i in from..nodes.len() {
         feed(&mut nodes[i], &mut ended[i], out)?;
     }
     Ok(())

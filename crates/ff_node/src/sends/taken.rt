@@ -12,10 +12,10 @@ impl Sends {
     pub fn take_first(&mut self) -> Option<Record>
         ensures { TakesSend self.old result self.new }
     {
-        match self.first.take() {
-            Some(r) => Some(r),
-            None => self.more.pop_front(),
+        if self.first.is_none() {
+            return self.more.pop_front();
         }
+        self.first.take()
     }
 
     /// All records that were sent, at once. After a refusal nothing changed.

@@ -9,6 +9,6 @@ invariant-loop-i g l =
     let b = g.N.Node.does in record {
       kind : map b.opening l.nodes ≡ map b.opening l.fn.nodes;
       state : take l.i (parts l.nodes l.ended) ++ through_after b (drop l.i (parts l.nodes l.ended)) l.out.sends
-          ≡ through_after b (parts l.fn.nodes l.fn.ended) l.fn.out.sends;
-      sends : passed b (drop l.i (parts l.nodes l.ended)) l.out ≡ passed b (parts l.fn.nodes l.fn.ended) l.fn.out;
+          ≡ take l.fn.from (parts l.fn.nodes l.fn.ended) ++ through_after b (drop l.fn.from (parts l.fn.nodes l.fn.ended)) l.fn.out.sends;
+      sends : passed b (drop l.i (parts l.nodes l.ended)) l.out ≡ passed b (drop l.fn.from (parts l.fn.nodes l.fn.ended)) l.fn.out;
     }

@@ -1,0 +1,19 @@
+-- The first part's step, and then those of the others.
+use Rattle.std.proofs.Common.{◌≡◌, ◌<◌, ◌∙◌, length, ap, refl, rules, false, slice_index_or}
+use Rattle.std.proofs.lemmas.Result.{on_ok_weaker}
+use Rattle.ff_node.specs.Passing.{sent_alone}
+use Rattle.ff_node.proofs.PartsSteps.{passed-step}
+use Rattle.ff_node.proofs.parts.pass_one.Goals as goal
+
+pub returns-clause-sends : goal.returns-clause-sends
+returns-clause-sends g c =
+    let ns = c.args.nodes.now in
+    let es = c.args.ended.now in
+    let some : 0 < length ns = search rules in
+    let n = slice_index_or ns 0 c.index-nodes-0.result in
+    let n_is : n ≡ slice_index_or ns 0 n = ap (slice_index_or ns 0) c.index-nodes-0.is in
+    let e = slice_index_or es 0 false in
+    on_ok_weaker c.pass_all.result
+    (λ sent. sent ∙ passed-step g.N.Node.does ns es 0 n e some c.requires.flags n_is refl c.give.new.node c.give.new.ended
+    (sent_alone c.args.r c.args.out.now) c.give.new.out c.in_ok-give.ensures.sends)
+    c.pass_all.ensures.sends
