@@ -1,14 +1,10 @@
 -- The loop over the records that are given to a part: they stand before what the part sends for them.
-use Rattle.std.proofs.Common.{◌≡◌, ℕ, ◌+◌, ◌<◌, Bool, true, false, if◌then◌else◌, List, [], ◌∷◌, ◌++◌, length, refl, sym, ap, ap₂, subst, ◌∙◌, append_assoc, append-nil, length-append, arith}
+use Rattle.std.proofs.Common.{◌≡◌, ℕ, ◌+◌, ◌<◌, Bool, true, false, if◌then◌else◌, List, [], ◌∷◌, ◌++◌, length, refl, sym, ap, subst, ◌∙◌, append_assoc, append-nil, length-append, arith}
 use Rattle.ff_rec.specs.Lines.{Rec}
 use Rattle.ff_node.specs.Behaviour.{Behaviour}
 use Rattle.ff_node.specs.Comb.{Part, part, given_from, given_rejected, part_from, part_sends, part_rejects, part_after}
-use Rattle.ff_node.specs.Feeds.{Feeds}
-use Rattle.ff_node.specs.Next.{is_eos}
 use Rattle.ff_node.specs.Passing.{fed}
 use Rattle.ff_node.specs.Sends.{Sent, add}
-use Rattle.ff_node.specs.declared.class.Next.{Next}
-use Rattle.ff_node.proofs.FeedsLaws.{part_from-feeds, add-feeds}
 use Rattle.ff_node.proofs.PartsSteps.{part_after-feed, add-feed}
 use Rattle.ff_node.proofs.SendsLaws.{add-nothing}
 
@@ -86,37 +82,38 @@ module _ {N : Type 0} (b : Behaviour N) where
           ∙ on.sends;
     }
 
-    fed_on : (m : N) (next : Next) (new : Sent) → e ≡ false → Feeds b s t x next m new → HandsOn b p₀ out₀ less (part m (is_eos next)) new
-    fed_on m next new runs feeds =
+    fed_on : (q : Part N) (new : Sent) → e ≡ false → q ≡ part_from b s (x ∷ []) → new ≡ add t (given_from b s (x ∷ [])) (given_rejected b s (x ∷ []))
+        → HandsOn b p₀ out₀ less q new
+    fed_on q new runs after gathered =
         let sends = given_from b s (x ∷ []) in
         let rejects = given_rejected b s (x ∷ []) in
-        let after : part m (is_eos next) ≡ part_from b s (x ∷ []) = part_from-feeds b s m t new x next feeds in
-        let gathered : new ≡ add t sends rejects = add-feeds b s m t new x next feeds in
         record {
           rest = first.0;
           made = on.made ++ sends;
           as_many = omega (arith, on.as_many, ap length first.1);
           stand = ap (λ (o : Sent). o.sends) gathered ∙ ap (λ us. us ++ sends) first.2 ∙ append_assoc first.0 on.made sends;
-          state = part_after-feed b s e x first.0 on.rest (part m (is_eos next)) runs first.1 after ∙ on.state;
-          sends = add-feed b s e x first.0 on.rest (part m (is_eos next)) (with_sends out on.made) (with_sends new (on.made ++ sends)) runs first.1 after
+          state = part_after-feed b s e x first.0 on.rest q runs first.1 after ∙ on.state;
+          sends = add-feed b s e x first.0 on.rest q (with_sends out on.made) (with_sends new (on.made ++ sends)) runs first.1 after
               (ap (λ (o : Sent). with_sends o (on.made ++ sends)) gathered ∙ ap (λ (o : Sent). add (with_sends o on.made) sends rejects) (sym taken))
               ∙ on.sends;
         }
 
-    -- a part that has ended drops it
-    pub HandsOn-dropped : (m : N) (f : Bool) (new : Sent) → e ≡ true → m ≡ s → f ≡ e → new ≡ t → HandsOn b p₀ out₀ less (part m f) new
-    HandsOn-dropped m f new ended node_is flag_is out_is =
-        let P : Sent → Type 0 = λ o. HandsOn b p₀ out₀ less (part m f) o in
-        let Q : Part N → Type 0 = λ p. HandsOn b p₀ out₀ less p t in
-        subst P (sym out_is) (subst Q (sym (ap₂ (λ n g. part n g) node_is flag_is)) (dropped ended))
+    -- the part took the next one
+    pub HandsOn-given : (q : Part N) (new : Sent) → q ≡ part_after b (part s e) (x ∷ [])
+        → new ≡ add t (part_sends b (part s e) (x ∷ [])) (part_rejects b (part s e) (x ∷ [])) → HandsOn b p₀ out₀ less q new
+    HandsOn-given q new after gathered = by e refl
+      where
+        here : (f : Bool) → e ≡ f → part_after b (part s e) (x ∷ []) ≡ part_after b (part s f) (x ∷ [])
+        here f is = ap (λ g. part_after b (part s g) (x ∷ [])) is
 
-    -- and one that runs takes it
-    pub HandsOn-fed : (m m' : N) (next : Next) (f : Bool) (new new' : Sent) → e ≡ false → Feeds b s t x next m' new' → m ≡ m' → f ≡ is_eos next → new ≡ new'
-        → HandsOn b p₀ out₀ less (part m f) new
-    HandsOn-fed m m' next f new new' runs feeds node_is flag_is out_is =
-        let P : Sent → Type 0 = λ o. HandsOn b p₀ out₀ less (part m f) o in
-        let Q : Part N → Type 0 = λ p. HandsOn b p₀ out₀ less p new' in
-        subst P (sym out_is) (subst Q (sym (ap₂ (λ n g. part n g) node_is flag_is)) (fed_on m' next new' runs feeds))
+        sent : (f : Bool) → e ≡ f → new ≡ add t (part_sends b (part s f) (x ∷ [])) (part_rejects b (part s f) (x ∷ []))
+        sent f is = gathered ∙ ap (λ g. add t (part_sends b (part s g) (x ∷ [])) (part_rejects b (part s g) (x ∷ []))) is
+
+        by : (f : Bool) → e ≡ f → HandsOn b p₀ out₀ less q new
+        by true is =
+            subst (λ o. HandsOn b p₀ out₀ less q o) (sym (sent true is ∙ add-nothing t))
+            (subst (λ p. HandsOn b p₀ out₀ less p t) (sym (after ∙ here true is ∙ ap (part s) (sym is))) (dropped is))
+        by false is = fed_on q new is (after ∙ here false is) (sent false is)
 
   -- none is left
   module _ (p₀ : Part N) (out₀ : Sent) (left : ℕ) (p : Part N) (out : Sent) (on : HandsOn b p₀ out₀ left p out) (none : left ≡ 0) where

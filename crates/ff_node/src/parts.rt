@@ -1,6 +1,6 @@
 // Records on their way through the parts of a comb: what is sent by one part is given to the next.
 ghost use Rattle.std.specs.Prelude.{◌≡◌, ◌≤◌, ◌∷◌, ◌++◌, [], map, length, take, drop, OnOk};
-ghost use Rattle.ff_node.specs.Comb.{part, parts, part_after, through_after, through, through_rejects, total, total_rejects};
+ghost use Rattle.ff_node.specs.Comb.{part, parts, part_after, part_sends, part_rejects, through_after, through, through_rejects, total, total_rejects};
 ghost use Rattle.ff_node.specs.Passing.{fed, fed_last, passed, passed_last, sent_alone};
 ghost use Rattle.ff_node.specs.Sends.{add};
 
@@ -18,11 +18,24 @@ fn feed<N: Node>(node: &mut N, ended: &mut bool, out: &mut Sends) -> Result<(), 
         let Some(r) = out.take_first() else {
             return Ok(());
         };
-        if *ended {
-            drop(r);
-        } else {
-            *ended = node_step(node, r, out)?.is_eos();
-        }
+        give(node, ended, r, out)?;
+    }
+    Ok(())
+}
+
+// A record to a part; one that has ended drops it.
+fn give<N: Node>(node: &mut N, ended: &mut bool, r: Record, out: &mut Sends) -> Result<(), NoMemory>
+    ensures kind { N.does.opening node.new ≡ N.does.opening node.old }
+    ensures state { OnOk result
+        (part node.new ended.new ≡ part_after N.does (part node.old ended.old) (r ∷ [])) }
+    ensures sends { OnOk result (out.new ≡ add out.old
+        (part_sends N.does (part node.old ended.old) (r ∷ []))
+        (part_rejects N.does (part node.old ended.old) (r ∷ []))) }
+{
+    if *ended {
+        drop(r);
+    } else {
+        *ended = node_step(node, r, out)?.is_eos();
     }
     Ok(())
 }
@@ -85,29 +98,6 @@ fn pass_one<N: Node>(
     }
     give(&mut nodes[0], &mut ended[0], r, out)?;
     pass_all(nodes, ended, 1, out)
-}
-
-// A record to a part, where nothing was sent before it; one that has ended drops it.
-#[inline]
-fn give<N: Node>(
-    node: &mut N,
-    ended: &mut bool,
-    r: Record,
-    out: &mut Sends,
-) -> Result<(), NoMemory>
-    requires empty { out.old.sends ≡ [] }
-    ensures kind { N.does.opening node.new ≡ N.does.opening node.old }
-    ensures state { OnOk result
-        (part node.new ended.new ≡ part_after N.does (part node.old ended.old) (r ∷ [])) }
-    ensures sends { OnOk result (out.new
-        ≡ fed N.does (part node.old ended.old) (sent_alone r out.old)) }
-{
-    if *ended {
-        drop(r);
-    } else {
-        *ended = node_step(node, r, out)?.is_eos();
-    }
-    Ok(())
 }
 
 /// The end of all parts: what comes out behind the last is added to `out`.

@@ -1,8 +1,7 @@
-use Rattle.std.proofs.Common.{◌≡◌, ◌+◌, ◌-◌, ◌<◌, ◌∙◌, length, ap, arith}
+use Rattle.std.proofs.Common.{◌≡◌, ◌+◌, ◌-◌, ◌<◌, ◌∙◌, length, arith}
 use Rattle.ff_node.specs.Comb.{part}
-use Rattle.ff_node.proofs.HandsOn.{HandsOn-some, HandsOn-dropped, HandsOn-fed}
+use Rattle.ff_node.proofs.HandsOn.{HandsOn-some, HandsOn-given}
 use Rattle.ff_node.proofs.parts.feed.Goals as goal
-use Rattle.ff_node.proofs.parts.feed.Goals.{then-ended, else-ended+in_ok-node_step}
 
 pub returns-in_default-clause-state : goal.returns-in_default-clause-state
 returns-in_default-clause-state g c =
@@ -22,17 +21,9 @@ loop-taken-preserved g c =
     let all = length c.args.out.now.sends in
     let k = c.loop-taken._taken in
     let one : all - k ≡ all - (k + 1) + 1 = omega (arith, c.loop-taken-test.true, c.len-taken-end.ensures) in
-    elim c.if-ended.branch [
-      | then-ended w ↦ record {
-        kind = ap b.opening w.node-is ∙ c.loop-taken.invariant.kind;
-        on = HandsOn-dropped b (part c.args.node.now c.args.ended.now) c.args.out.now (all - k) (all - (k + 1)) c.loop-taken.node c.loop-taken.ended c.loop-taken.out
-            c.take_first.new.self c.in-Some.r c.loop-taken.invariant.on one c.in-Some.ensures c.if-ended.node c.if-ended.ended c.if-ended.out
-            w.if-ended.true w.node-is w.ended-is w.out-is;
-      }
-      | else-ended+in_ok-node_step w ↦ record {
-        kind = ap b.opening w.node-is ∙ w.in_ok-node_step.ensures.kind ∙ c.loop-taken.invariant.kind;
-        on = HandsOn-fed b (part c.args.node.now c.args.ended.now) c.args.out.now (all - k) (all - (k + 1)) c.loop-taken.node c.loop-taken.ended c.loop-taken.out
-            c.take_first.new.self c.in-Some.r c.loop-taken.invariant.on one c.in-Some.ensures c.if-ended.node w.node_step.new.node w.in_ok-node_step.field-0
-            c.if-ended.ended c.if-ended.out w.node_step.new.out w.if-ended.false w.in_ok-node_step.ensures.fed w.node-is (w.ended-is ∙ w.is_eos.ensures) w.out-is;
-      }
-    ]
+    record {
+      kind = c.in_ok-give.ensures.kind ∙ c.loop-taken.invariant.kind;
+      on = HandsOn-given b (part c.args.node.now c.args.ended.now) c.args.out.now (all - k) (all - (k + 1)) c.loop-taken.node c.loop-taken.ended c.loop-taken.out
+          c.take_first.new.self c.in-Some.r c.loop-taken.invariant.on one c.in-Some.ensures (part c.give.new.node c.give.new.ended) c.give.new.out
+          c.in_ok-give.ensures.state c.in_ok-give.ensures.sends;
+    }
