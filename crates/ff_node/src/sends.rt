@@ -74,6 +74,7 @@ impl Sends {
     }
 
     /// How many records were sent and not taken yet.
+    #[inline]
     pub fn len(&self) -> usize
         ensures { result ≡ length self.now.sends }
     {

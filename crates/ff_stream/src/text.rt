@@ -46,10 +46,15 @@ impl Text {
     }
 
     /// Adds the lines of what was sent, which is taken out.
+    #[inline]
     pub fn print_sends(&mut self, out: &mut Sends) -> Result<(), NoMemory>
         ensures text { OnOk result (self.new ≡ self.old ++ text out.old.sends) }
         ensures sends { OnOk result (out.new ≡ record out.old { sends = [] }) }
     {
+        // A fold sends nothing for most records.
+        if out.len() == 0 {
+            return Ok(());
+        }
         print_sends(out, &mut self.bytes)
     }
 

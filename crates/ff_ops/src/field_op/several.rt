@@ -7,7 +7,7 @@ ghost use Rattle.ff_ops.specs.FieldOps.{field_answer, words};
 ghost use Rattle.ff_ops.specs.declared.field_op.FieldOp.TheVariants.{Words};
 
 use ff_node::Sends;
-use ff_rec::{Kept, NoMemory, Record, split};
+use ff_rec::{Kept, NoMemory, Record, split_near};
 use std::alloc::Global;
 
 /// `words F`
@@ -27,7 +27,7 @@ fn send_words(alloc: Global, bytes: &[u8], out: &mut Sends) -> Result<(), NoMemo
 {
     let mut rest = Some(bytes);
     while let Some(bytes) = rest {
-        let (word, behind) = split(bytes, b' ');
+        let (word, behind) = split_near(bytes, b' ');
         if !word.is_empty() {
             out.send(Record::of_plain(alloc, word)?)?;
         }
