@@ -2,11 +2,19 @@ use super::*;
 
 #[test]
 fn cuts_at_the_first_separator(rt: HostRuntime) {
-    assert_eq!(rt;
-        split(b"ab\tc\td", b'\t'),
-        (b"ab".as_slice(), Some(b"c\td".as_slice()))
-    );
-    assert_eq!(rt; split(b"\t", b'\t'), (b"".as_slice(), Some(b"".as_slice())));
-    assert_eq!(rt; split(b"ab", b'\t'), (b"ab".as_slice(), None));
-    assert_eq!(rt; split(b"", b'\t'), (b"".as_slice(), None));
+    for (bytes, piece, rest) in [
+        ("ab\tc\td", "ab", Some("c\td")),
+        ("\t", "", Some("")),
+        ("ab", "ab", None),
+        ("", "", None),
+        // Near the last of the bytes that are looked at one by one.
+        ("abcdefghijk\tl", "abcdefghijk", Some("l")),
+        ("abcdefghijkl\tm\t", "abcdefghijkl", Some("m\t")),
+        ("abcdefghijklm\tn", "abcdefghijklm", Some("n")),
+        ("abcdefghijklmn", "abcdefghijklmn", None),
+    ] {
+        let want = (piece.as_bytes(), rest.map(|rest| rest.as_bytes()));
+        assert_eq!(rt; split(bytes.as_bytes(), b'\t'), want, "{bytes:?}");
+        assert_eq!(rt; split_near(bytes.as_bytes(), b'\t'), want, "{bytes:?}");
+    }
 }

@@ -143,6 +143,16 @@ fn fields_come_go_and_change_places(rt: HostRuntime) -> Result<(), Fail> {
 }
 
 #[test]
+fn an_empty_field_is_kept_alone(rt: HostRuntime) -> Result<(), Fail> {
+    let mut r = Record::of_line(rt.alloc(), split(b"a\t\tb", b'\n').0)?;
+    assert!(rt; 2 <= r.len());
+    r.keep_only(2);
+    assert_eq!(rt; r.joined(), b"".as_slice());
+    assert_eq!(rt; r.len(), 1);
+    Ok(())
+}
+
+#[test]
 fn a_record_of_a_part_of_another(rt: HostRuntime) -> Result<(), Fail> {
     let r = Record::of_line(rt.alloc(), split(b"ab\t-7\t7x", b'\n').0)?;
     for (k, want) in [(0, None), (1, None), (2, Some(-7)), (3, None), (4, None)] {
