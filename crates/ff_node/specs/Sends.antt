@@ -1,5 +1,6 @@
 -- What a node's calls gather: the records sent, and those rejected.
-use Rattle.std.specs.Prelude.{◌≡◌, ℕ, ◌≤◌, Bool, true, false, List, [], ◌∷◌, ◌++◌, length, Option, None, Some}
+use Rattle.std.specs.Prelude.{◌≡◌, ℕ, ◌≤◌, Bool, true, false, List, [], ◌∷◌, ◌++◌, drop, length, Option, None, Some}
+use Rattle.std.specs.Borrow.{Bor}
 use Rattle.ff_rec.specs.Lines.{Rec}
 pub use Rattle.ff_rec.specs.Counts.{count_more, counted}
 
@@ -36,6 +37,11 @@ nothing_sent keeps = record { sends = []; rejects = 0; keeps = keeps; kept = [] 
 pub record IsCounted (s : Sent) : Type 0 where
   pub counts : length s.kept ≤ s.rejects
   pub none : s.keeps ≡ false → s.kept ≡ []
+
+-- the first send is seen where it stands, or there is none
+abbrev pub IsFirst : Sent → Option (Bor Rec) → Type 0
+IsFirst s None = s.sends ≡ []
+IsFirst s (Some x) = s.sends ≡ x.now ∷ drop 1 s.sends
 
 -- the first send is taken, or there was none
 abbrev pub TakesSend : Sent → Option Rec → Sent → Type 0

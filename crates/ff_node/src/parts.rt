@@ -8,6 +8,7 @@ use crate::{Node, Sends, node_step};
 use ff_rec::{NoMemory, Record};
 
 // The records in `out` to a part, which puts in their place what it sends; one that has ended drops them.
+#[inline]
 fn feed<N: Node>(node: &mut N, ended: &mut bool, out: &mut Sends) -> Result<(), NoMemory>
     ensures kind { N.does.opening node.new ≡ N.does.opening node.old }
     ensures state { OnOk result
@@ -24,6 +25,7 @@ fn feed<N: Node>(node: &mut N, ended: &mut bool, out: &mut Sends) -> Result<(), 
 }
 
 // A record to a part; one that has ended drops it.
+#[inline]
 fn give<N: Node>(node: &mut N, ended: &mut bool, r: Record, out: &mut Sends) -> Result<(), NoMemory>
     ensures kind { N.does.opening node.new ≡ N.does.opening node.old }
     ensures state { OnOk result

@@ -54,7 +54,9 @@ impl Sends {
         if self.first.is_none() && self.more.is_empty() {
             self.first = Some(r);
         } else {
-            self.more.push_back(r)?;
+            // Room first: a refused push would hand the record back, and so move it once more.
+            self.more.reserve(1)?;
+            self.more.push_back_reserved(r);
         }
         Ok(())
     }

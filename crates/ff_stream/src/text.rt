@@ -51,10 +51,6 @@ impl Text {
         ensures text { OnOk result (self.new ≡ self.old ++ text out.old.sends) }
         ensures sends { OnOk result (out.new ≡ record out.old { sends = [] }) }
     {
-        // A fold sends nothing for most records.
-        if out.len() == 0 {
-            return Ok(());
-        }
         print_sends(out, &mut self.bytes)
     }
 
@@ -88,8 +84,9 @@ fn print_sends(out: &mut Sends, into: &mut Vec<u8>) -> Result<(), NoMemory>
     ensures text { OnOk result (into.new.items ≡ into.old.items ++ text out.old.sends) }
     ensures sends { OnOk result (out.new ≡ record out.old { sends = [] }) }
 {
-    while let Some(r) = out.take_first() {
-        print_record(&r, into)?;
+    while let Some(r) = out.first() {
+        print_record(r, into)?;
+        out.drop_first();
     }
     Ok(())
 }

@@ -1,6 +1,6 @@
 // How what was gathered is taken out.
-ghost use Rattle.std.specs.Prelude.{◌≡◌, [], IfOk, OnOk, OnErr};
-ghost use Rattle.ff_node.specs.Sends.{rejects_alone, sent_before, TakesSend, TakesReject};
+ghost use Rattle.std.specs.Prelude.{◌≡◌, [], drop, IfOk, OnOk, OnErr};
+ghost use Rattle.ff_node.specs.Sends.{rejects_alone, sent_before, IsFirst, TakesSend, TakesReject};
 
 use super::Sends;
 use ff_rec::{NoMemory, Record, Records};
@@ -16,6 +16,29 @@ impl Sends {
             return self.more.pop_front();
         }
         self.first.take()
+    }
+
+    /// The first record that was sent, where it stands.
+    #[inline]
+    pub fn first(&self) -> Option<&Record>
+        ensures { IsFirst self.now result }
+    {
+        match &self.first {
+            Some(r) => Some(r),
+            None => self.more.front(),
+        }
+    }
+
+    /// Lets the first record that was sent go, if there is one.
+    #[inline]
+    pub fn drop_first(&mut self)
+        ensures { self.new ≡ record self.old { sends = drop 1 self.old.sends } }
+    {
+        if self.first.is_some() {
+            self.first = None;
+        } else {
+            drop(self.more.pop_front());
+        }
     }
 
     /// All records that were sent, at once. After a refusal nothing changed.

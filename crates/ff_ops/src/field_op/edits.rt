@@ -9,6 +9,7 @@ use ff_node::Sends;
 use ff_rec::{Field, MOST_FIELDS, NoMemory, Record};
 
 /// `set F "T"`
+#[inline(never)]
 pub(crate) fn set_field(
     f: usize,
     text: &Field,
@@ -25,6 +26,7 @@ pub(crate) fn set_field(
 }
 
 /// `keep F`
+#[inline(never)]
 pub(crate) fn keep_field(f: usize, mut r: Record, out: &mut Sends) -> Result<(), NoMemory>
     ensures { OnOk result (out.new ≡ answered out.old (field_answer (Keep f) r) r) }
 {
@@ -36,6 +38,7 @@ pub(crate) fn keep_field(f: usize, mut r: Record, out: &mut Sends) -> Result<(),
 }
 
 /// `drop F`
+#[inline(never)]
 pub(crate) fn drop_field(f: usize, mut r: Record, out: &mut Sends) -> Result<(), NoMemory>
     ensures { OnOk result (out.new ≡ answered out.old (field_answer (Drop f) r) r) }
 {
@@ -47,6 +50,7 @@ pub(crate) fn drop_field(f: usize, mut r: Record, out: &mut Sends) -> Result<(),
 }
 
 /// `swap F G`
+#[inline(never)]
 pub(crate) fn swap_fields(
     f: usize,
     g: usize,
@@ -63,6 +67,7 @@ pub(crate) fn swap_fields(
 }
 
 /// `copy F`
+#[inline(never)]
 pub(crate) fn append_copy(f: usize, mut r: Record, out: &mut Sends) -> Result<(), NoMemory>
     ensures { OnOk result (out.new ≡ answered out.old (field_answer (Copy f) r) r) }
 {
@@ -79,6 +84,7 @@ pub(crate) fn append_copy(f: usize, mut r: Record, out: &mut Sends) -> Result<()
 }
 
 /// `len F`
+#[inline(never)]
 pub(crate) fn set_len(f: usize, mut r: Record, out: &mut Sends) -> Result<(), NoMemory>
     ensures { OnOk result (out.new ≡ answered out.old (field_answer (Len f) r) r) }
 {
@@ -92,6 +98,7 @@ pub(crate) fn set_len(f: usize, mut r: Record, out: &mut Sends) -> Result<(), No
 }
 
 /// `upper F`
+#[inline(never)]
 pub(crate) fn set_uppercase(f: usize, mut r: Record, out: &mut Sends) -> Result<(), NoMemory>
     ensures { OnOk result (out.new ≡ answered out.old (field_answer (Upper f) r) r) }
 {
@@ -104,6 +111,7 @@ pub(crate) fn set_uppercase(f: usize, mut r: Record, out: &mut Sends) -> Result<
 }
 
 /// `lower F`
+#[inline(never)]
 pub(crate) fn set_lowercase(f: usize, mut r: Record, out: &mut Sends) -> Result<(), NoMemory>
     ensures { OnOk result (out.new ≡ answered out.old (field_answer (Lower f) r) r) }
 {

@@ -11,6 +11,7 @@ use ff_rec::{Kept, NoMemory, Record, split_near};
 use std::alloc::Global;
 
 /// `words F`
+#[inline(never)]
 pub(crate) fn split_words(f: usize, r: Record, out: &mut Sends) -> Result<(), NoMemory>
     ensures { OnOk result (out.new ≡ answered out.old (field_answer (Words f) r) r) }
 {
@@ -37,6 +38,7 @@ fn send_words(alloc: Global, bytes: &[u8], out: &mut Sends) -> Result<(), NoMemo
 }
 
 /// `dup N`: the record itself goes last.
+#[inline(never)]
 pub(crate) fn send_times(n: usize, r: Record, out: &mut Sends) -> Result<(), NoMemory>
     ensures { OnOk result (out.new ≡ add out.old (replicate n r) []) }
 {
