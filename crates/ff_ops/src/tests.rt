@@ -40,91 +40,85 @@ fn read(alloc: Global, text: &str) -> Result<Result<Op, OpFault>, Fail> {
 // An operation is read, has so many arguments, and is printed as it was read; so is its copy.
 fn check_text(rt: &impl Abort, alloc: Global, text: &str, arguments: usize) -> Result<(), Fail> {
     let op = read(alloc, text)??;
-    let mut printed = Vec::new(alloc);
-    Node::copy(&op)?.print(&mut printed)?;
-    assert_eq!(rt; printed.as_slice(), text.as_bytes());
-    assert_eq!(rt; op.args().len(), arguments);
-    let kinds = shape(op.row().name()).ok_or("no shape")?;
-    assert_eq!(rt; kinds.len(), arguments, "{text}");
+    assert_eq!(rt; op.args().len(), arguments, "{text}");
+    let kinds = shape(op.row().name()).map(|kinds| kinds.len());
+    assert_eq!(rt; kinds, Some(arguments), "{text}");
+    assert_eq!(rt; printed(alloc, &op)?.as_slice(), text.as_bytes());
     Ok(())
 }
 
+// The text of an operation's copy.
+fn printed(alloc: Global, op: &Op) -> Result<Vec<u8>, Fail> {
+    let mut text = Vec::new(alloc);
+    Node::copy(op)?.print(&mut text)?;
+    Ok(text)
+}
+
+// Checks each of the texts, with `|` between them, and answers how many there are.
+fn check_texts(
+    rt: &impl Abort,
+    alloc: Global,
+    texts: &str,
+    arguments: usize,
+) -> Result<usize, Fail> {
+    let mut count: usize = 0;
+    for text in texts.split('|') {
+        check_text(rt, alloc, text, arguments)?;
+        count = count.saturating_add(1);
+    }
+    Ok(count)
+}
+
+// Texts of one row each, by their number of arguments.
+const NONE: &str = "id|number|tally";
+
+const ONE: &str =
+    "neg 1|keep 2|drop 2|copy 3|len 1|upper 1|lower 1|words 1|dup 64|halve 1|runsum 1|delta 1|\
+    take 1000000000|skip 0|uniq 1|total 1|min 1|max 1|tallyby 1";
+
+const TWO: &str = "add 1 -5|sub 64 7|mul 2 -9223372036854775808|div 1 -1|rem 1 9223372036854775807|\
+    set 1 \"a;b\"|swap 1 64|ifeq 1 \"\"|has 1 \"x\"|plus 1 2|totalby 1 2";
+
+const THREE: &str = "if 1 != 3";
+
 #[test]
 fn each_row_is_read_and_printed(rt: HostRuntime) -> Result<(), Fail> {
-    let rows = [
-        ("id", 0),
-        ("add 1 -5", 2),
-        ("sub 64 7", 2),
-        ("mul 2 -9223372036854775808", 2),
-        ("div 1 -1", 2),
-        ("rem 1 9223372036854775807", 2),
-        ("neg 1", 1),
-        ("set 1 \"a;b\"", 2),
-        ("keep 2", 1),
-        ("drop 2", 1),
-        ("swap 1 64", 2),
-        ("copy 3", 1),
-        ("len 1", 1),
-        ("upper 1", 1),
-        ("lower 1", 1),
-        ("if 1 != 3", 3),
-        ("ifeq 1 \"\"", 2),
-        ("has 1 \"x\"", 2),
-        ("words 1", 1),
-        ("dup 64", 1),
-        ("halve 1", 1),
-        ("plus 1 2", 2),
-        ("number", 0),
-        ("runsum 1", 1),
-        ("delta 1", 1),
-        ("take 1000000000", 1),
-        ("skip 0", 1),
-        ("uniq 1", 1),
-        ("tally", 0),
-        ("total 1", 1),
-        ("min 1", 1),
-        ("max 1", 1),
-        ("tallyby 1", 1),
-        ("totalby 1 2", 2),
-    ];
-    assert_eq!(rt; rows.len(), ROWS.len());
-    for (text, arguments) in rows {
-        check_text(&rt, rt.alloc(), text, arguments)?;
+    let mut count: usize = 0;
+    for (arguments, texts) in [(0, NONE), (1, ONE), (2, TWO), (3, THREE)] {
+        count = count.saturating_add(check_texts(&rt, rt.alloc(), texts, arguments)?);
     }
-    for text in ["if 1 < 0", "if 1 <= 0", "if 1 = 0", "if 1 >= 0", "if 1 > 0"] {
-        check_text(&rt, rt.alloc(), text, 3)?;
+    assert_eq!(rt; count, ROWS.len());
+    check_texts(
+        &rt,
+        rt.alloc(),
+        "if 1 < 0|if 1 <= 0|if 1 = 0|if 1 >= 0|if 1 > 0",
+        3,
+    )?;
+    Ok(())
+}
+
+// Each of the texts, with `|` between them, is refused for this fault.
+fn check_refused(rt: &impl Abort, alloc: Global, texts: &str, want: OpFault) -> Result<(), Fail> {
+    for text in texts.split('|') {
+        assert_eq!(rt; read(alloc, text)?.err(), Some(want), "{text}");
     }
     Ok(())
 }
 
 #[test]
 fn refusals_come_in_their_order(rt: HostRuntime) -> Result<(), Fail> {
-    for (text, want) in [
-        ("addx 1 1", OpFault::UnknownOp),
-        ("", OpFault::UnknownOp),
-        ("Id", OpFault::UnknownOp),
-        ("id 1", OpFault::ArgCount),
-        ("add 0", OpFault::ArgCount),
-        ("add \"\" 1 1", OpFault::ArgCount),
-        ("add 65 \"1\"", OpFault::ArgKind(1)),
-        ("add < \"1\"", OpFault::ArgKind(0)),
-        ("if 1 5 5", OpFault::ArgKind(1)),
-        ("set 1 5", OpFault::ArgKind(1)),
-        ("add 65 1", OpFault::ArgRange(0)),
-        ("add 0 1", OpFault::ArgRange(0)),
-        ("swap 1 -1", OpFault::ArgRange(1)),
-        ("swap 65 0", OpFault::ArgRange(0)),
-        ("div 1 0", OpFault::ArgRange(1)),
-        ("rem 1 0", OpFault::ArgRange(1)),
-        ("dup 0", OpFault::ArgRange(0)),
-        ("dup 65", OpFault::ArgRange(0)),
-        ("take 0", OpFault::ArgRange(0)),
-        ("skip 1000000001", OpFault::ArgRange(0)),
+    for (fault, texts) in [
+        (OpFault::UnknownOp, "addx 1 1||Id"),
+        (OpFault::ArgCount, "id 1|add 0|add \"\" 1 1"),
+        (OpFault::ArgKind(0), "add < \"1\""),
+        (OpFault::ArgKind(1), "add 65 \"1\"|if 1 5 5|set 1 5"),
+        (
+            OpFault::ArgRange(0),
+            "add 65 1|add 0 1|swap 65 0|dup 0|dup 65|take 0|skip 1000000001",
+        ),
+        (OpFault::ArgRange(1), "swap 1 -1|div 1 0|rem 1 0"),
     ] {
-        match read(rt.alloc(), text)? {
-            Ok(op) => panic!(&rt; "{op:?} is read"),
-            Err(fault) => assert_eq!(rt; fault, want, "{text}"),
-        }
+        check_refused(&rt, rt.alloc(), texts, fault)?;
     }
     assert_eq!(rt; shape(b"addx").is_none(), true);
     Ok(())

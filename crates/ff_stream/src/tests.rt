@@ -3,10 +3,11 @@ mod endings;
 mod nodes;
 mod texts;
 
-use crate::{Ending, RunFault, Stop, run_stream};
+use crate::{Ending, Report, RunFault, Stop, run_stream};
 use ff_io::{MemSink, MemSource};
 use ff_net::Version;
 use ff_node::Node;
+use ff_rec::Record;
 use nodes::{Gate, Last};
 use std::alloc::Global;
 use std::process::Abort;
@@ -46,6 +47,28 @@ fn summary(answer: &Result<Ending, RunFault>) -> (Kind, u64) {
     }
 }
 
+fn source_of(rt: &impl Abort, alloc: Global, input: &[u8], by: Devices) -> Result<MemSource, Fail> {
+    assert!(rt; 1 <= by.most);
+    let fail = vec![in alloc; by.fails]?;
+    let bytes = Vec::from_slice(alloc, input)?;
+    Ok(MemSource::new(bytes, by.most, fail))
+}
+
+fn sink_of(alloc: Global, by: Devices) -> Result<MemSink, Fail> {
+    Ok(MemSink::new(alloc, by.budget, Vec::new(alloc))?)
+}
+
+// Runs a node, which stands for a network of gates.
+fn run<M: Node>(
+    alloc: Global,
+    node: M,
+    keep: bool,
+    source: &mut MemSource,
+    sink: &mut MemSink,
+) -> Result<Ending, RunFault> {
+    run_stream::<Gate, M, MemSource, MemSink>(alloc, node, Version::One, keep, source, sink)
+}
+
 // Runs a node over an input and compares: how it ends, what the sink took, and how many records were rejected.
 fn check<M: Node>(
     rt: &impl Abort,
@@ -57,24 +80,34 @@ fn check<M: Node>(
     out: &[u8],
     rejected: u64,
 ) -> Result<(), Fail> {
-    assert!(rt; 1 <= by.most);
-    let bytes = Vec::from_slice(alloc, input)?;
-    let mut source = MemSource::new(bytes, by.most, vec![in alloc; by.fails]?);
-    let mut sink = MemSink::new(alloc, by.budget, Vec::new(alloc))?;
-    let answer = run_stream::<Gate, M, MemSource, MemSink>(
-        alloc,
-        node,
-        Version::One,
-        false,
-        &mut source,
-        &mut sink,
-    );
+    let mut source = source_of(rt, alloc, input, by)?;
+    let mut sink = sink_of(alloc, by)?;
+    let answer = run(alloc, node, false, &mut source, &mut sink);
     assert_eq!(rt; summary(&answer), (kind, rejected));
     assert_eq!(rt; sink.taken(), out);
     Ok(())
 }
 
-// Whole inputs, in pieces of every size. A gate of `most` records ends behind so many, and one of 0 never does.
+// Runs a gate over a whole input, in pieces of every size.
+fn check_whole(
+    rt: &impl Abort,
+    alloc: Global,
+    most: u64,
+    input: &[u8],
+    out: &[u8],
+    rejected: u64,
+) -> Result<(), Fail> {
+    for size in 1..10 {
+        let by = Devices {
+            most: size,
+            ..SOUND
+        };
+        check(rt, alloc, Gate::of(most), input, by, DONE, out, rejected)?;
+    }
+    Ok(())
+}
+
+// A gate of `most` records ends behind so many, and one of 0 never does.
 #[test]
 fn whole_inputs(rt: HostRuntime) -> Result<(), Fail> {
     for (most, input, out, rejected) in [
@@ -87,23 +120,13 @@ fn whole_inputs(rt: HostRuntime) -> Result<(), Fail> {
         (2, b"1\n2\na\tb\n", b"1\n2\n", 0),
         (5, b"1\n2\n", b"1\n2\n", 0),
     ] {
-        for size in 1..10 {
-            let by = Devices {
-                most: size,
-                ..SOUND
-            };
-            check(
-                &rt,
-                rt.alloc(),
-                Gate::of(most),
-                input,
-                by,
-                DONE,
-                out,
-                rejected,
-            )?;
-        }
+        check_whole(&rt, rt.alloc(), most, input, out, rejected)?;
     }
+    Ok(())
+}
+
+#[test]
+fn records_at_the_end(rt: HostRuntime) -> Result<(), Fail> {
     for (input, out) in [
         (b"".as_slice(), b"".as_slice()),
         (b"1\n2\ta\n", b"2\ta\n"),
@@ -114,34 +137,43 @@ fn whole_inputs(rt: HostRuntime) -> Result<(), Fail> {
     Ok(())
 }
 
+// What an open gate's run rejects of records of two fields, of one and of two.
+fn rejects(rt: &impl Abort, alloc: Global, keep: bool) -> Result<Report, Fail> {
+    let by = Devices {
+        most: 4,
+        fails: 0,
+        budget: 10,
+    };
+    let mut source = source_of(rt, alloc, b"a\tb\n1\nc\t\n", by)?;
+    let mut sink = sink_of(alloc, by)?;
+    let ending = run(alloc, Gate::open(), keep, &mut source, &mut sink);
+    assert_eq!(rt; sink.taken(), b"1\n".as_slice());
+    Ok(ending.ok().ok_or("it broke off")?.report)
+}
+
+// Whether a record is there, and is the one of this line.
+fn shows(r: Option<&Record>, line: &[u8]) -> bool {
+    match r {
+        Some(r) => r.joined() == line,
+        None => false,
+    }
+}
+
 // The records that are kept, beside their number.
 #[test]
 fn rejected_records_are_kept(rt: HostRuntime) -> Result<(), Fail> {
-    let alloc = rt.alloc();
-    for keep in [true, false] {
-        let bytes = Vec::from_slice(alloc, b"a\tb\n1\nc\t\n")?;
-        let mut source = MemSource::new(bytes, 4, Vec::new(alloc));
-        let mut sink = MemSink::new(alloc, 10, Vec::new(alloc))?;
-        let Ok(ending) = run_stream::<Gate, Gate, MemSource, MemSink>(
-            alloc,
-            Gate::open(),
-            Version::One,
-            keep,
-            &mut source,
-            &mut sink,
-        ) else {
-            return Err(Fail::from("it broke off"));
-        };
-        let mut report = ending.report;
-        assert_eq!(rt; report.rejected, 2);
-        assert_eq!(rt; report.kept.len(), if keep { 2 } else { 0 });
-        if keep {
-            for line in [b"a\tb".as_slice(), b"c\t"] {
-                let r = report.kept.take_first().ok_or("too few")?;
-                assert_eq!(rt; r.joined(), line);
-            }
-        }
-        assert_eq!(rt; sink.taken(), b"1\n".as_slice());
-    }
+    let report = rejects(&rt, rt.alloc(), true)?;
+    assert_eq!(rt; report.rejected, 2);
+    assert_eq!(rt; report.kept.len(), 2);
+    assert!(rt; shows(report.kept.get(0), b"a\tb"));
+    assert!(rt; shows(report.kept.get(1), b"c\t"));
+    Ok(())
+}
+
+#[test]
+fn rejected_records_are_only_counted(rt: HostRuntime) -> Result<(), Fail> {
+    let report = rejects(&rt, rt.alloc(), false)?;
+    assert_eq!(rt; report.rejected, 2);
+    assert_eq!(rt; report.kept.len(), 0);
     Ok(())
 }

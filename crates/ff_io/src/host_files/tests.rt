@@ -1,31 +1,32 @@
 use super::storing::SUFFIXES;
 use super::*;
+use crate::tests::{check_load, check_refusal, check_store};
 use std::io::repeat;
 use std::os::unix::fs::symlink;
 use std::test::Fail;
 
 const NAME: &str = "ff_io_host_files_test";
 
+// Whether a file of this name with such a suffix is there.
+fn stands_beside(rt: &HostRuntime, suffix: &str) -> Result<bool, Fail> {
+    let mut beside = String::from_str(rt.alloc(), NAME)?;
+    beside.push_str(suffix)?;
+    Ok(fs::exists(rt, beside.as_str())?)
+}
+
 #[test]
 fn file_is_stored_and_loaded(rt: HostRuntime) -> Result<(), Fail> {
     let mut files = HostFiles::new(rt.alloc(), rt, rt.stderr());
-    assert_eq!(rt; files.store(NAME, b"first"), Ok(()));
-    assert_eq!(rt; files.load(NAME, 5)?.as_slice(), b"first".as_slice());
-    assert_eq!(rt; files.store(NAME, b"second"), Ok(()));
-    for (limit, answer) in [
-        (5, Err(FileFault::TooLong)),
-        (6, Ok(b"second".as_slice())),
-        (usize::MAX, Ok(b"second")),
-    ] {
-        let loaded = files.load(NAME, limit);
-        assert_eq!(rt; loaded.as_deref().map_err(|fault| *fault), answer);
-    }
+    check_store(&rt, &mut files, NAME, b"first");
+    check_load(&rt, &mut files, NAME, 5, b"first");
+    check_store(&rt, &mut files, NAME, b"second");
+    check_refusal(&rt, &mut files, NAME, 5, FileFault::TooLong);
+    check_load(&rt, &mut files, NAME, 6, b"second");
+    check_load(&rt, &mut files, NAME, usize::MAX, b"second");
     fs::remove_file(&rt, NAME)?;
-    assert_eq!(rt; files.load(NAME, 9).err(), Some(FileFault::Failed));
+    check_refusal(&rt, &mut files, NAME, 9, FileFault::Failed);
     for suffix in SUFFIXES {
-        let mut beside = String::from_str(rt.alloc(), NAME)?;
-        beside.push_str(suffix)?;
-        assert_eq!(rt; fs::exists(&rt, beside.as_str())?, false);
+        assert!(rt; !stands_beside(&rt, suffix)?);
     }
     Ok(())
 }
@@ -34,14 +35,11 @@ fn file_is_stored_and_loaded(rt: HostRuntime) -> Result<(), Fail> {
 fn file_that_stands_beside_is_left_alone(rt: HostRuntime) -> Result<(), Fail> {
     let mut files = HostFiles::new(rt.alloc(), rt, rt.stderr());
     fs::write(&rt, "ff_io_beside_test.new", "another")?;
-    assert_eq!(rt; files.store("ff_io_beside_test", b"own"), Ok(()));
-    for (name, bytes) in [
-        ("ff_io_beside_test", b"own".as_slice()),
-        ("ff_io_beside_test.new", b"another"),
-    ] {
-        assert_eq!(rt; files.load(name, 9)?.as_slice(), bytes);
-        fs::remove_file(&rt, name)?;
-    }
+    check_store(&rt, &mut files, "ff_io_beside_test", b"own");
+    check_load(&rt, &mut files, "ff_io_beside_test", 9, b"own");
+    check_load(&rt, &mut files, "ff_io_beside_test.new", 9, b"another");
+    fs::remove_file(&rt, "ff_io_beside_test")?;
+    fs::remove_file(&rt, "ff_io_beside_test.new")?;
     Ok(())
 }
 
@@ -50,11 +48,8 @@ fn link_stays_a_link(rt: HostRuntime) -> Result<(), Fail> {
     let mut files = HostFiles::new(rt.alloc(), rt, rt.stderr());
     fs::write(&rt, "ff_io_target_test", "old")?;
     symlink(&rt, "ff_io_target_test", "ff_io_link_test")?;
-    assert_eq!(rt; files.store("ff_io_link_test", b"new"), Ok(()));
-    assert_eq!(rt;
-        files.load("ff_io_target_test", 9)?.as_slice(),
-        b"new".as_slice()
-    );
+    check_store(&rt, &mut files, "ff_io_link_test", b"new");
+    check_load(&rt, &mut files, "ff_io_target_test", 9, b"new");
     fs::remove_file(&rt, "ff_io_link_test")?;
     fs::remove_file(&rt, "ff_io_target_test")?;
     Ok(())
@@ -81,7 +76,7 @@ fn what_is_appended_stands_behind(rt: HostRuntime) -> Result<(), Fail> {
     assert_eq!(rt; append(&rt, name, b"a\n"), Ok(()));
     assert_eq!(rt; append(&rt, name, b"b\n"), Ok(()));
     let mut files = HostFiles::new(rt.alloc(), rt, rt.stderr());
-    assert_eq!(rt; files.load(name, 9)?.as_slice(), b"a\nb\n".as_slice());
+    check_load(&rt, &mut files, name, 9, b"a\nb\n");
     fs::remove_file(&rt, name)?;
     Ok(())
 }

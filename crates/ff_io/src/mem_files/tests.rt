@@ -1,67 +1,80 @@
 use super::*;
+use crate::tests::{check_load, check_refusal, check_store};
 use std::alloc::AllocError;
+use std::process::Abort;
 use std::test::Fail;
 
-const FAILED: Result<(), StoreFault> = Err(StoreFault::Failed);
+fn entry(alloc: Global, name: &str, bytes: &[u8]) -> Result<(String, Vec<u8>), AllocError> {
+    let content = bytes.to_vec(alloc)?;
+    Ok((String::from_str(alloc, name)?, content))
+}
+
+// Two files with these names and bytes; the calls with these numbers fail.
+fn two_files(
+    alloc: Global,
+    first: (&str, &[u8]),
+    second: (&str, &[u8]),
+    fail: &[u64],
+) -> Result<MemFiles, AllocError> {
+    let fail = fail.to_vec(alloc)?;
+    let mut list = Vec::new(alloc);
+    for (name, bytes) in [first, second] {
+        list.push(entry(alloc, name, bytes)?)?;
+    }
+    Ok(MemFiles::new(list, fail))
+}
 
 // The files `a`, with three bytes, and `b`, with none; the calls with these numbers fail.
-fn two_files(alloc: Global, fail: &[u64]) -> Result<MemFiles, AllocError> {
-    let mut list = Vec::new(alloc);
-    list.push((String::from_str(alloc, "a")?, b"1\n2".to_vec(alloc)?))?;
-    list.push((String::from_str(alloc, "b")?, Vec::new(alloc)))?;
-    Ok(MemFiles::new(list, fail.to_vec(alloc)?))
+fn a_and_b(alloc: Global, fail: &[u64]) -> Result<MemFiles, AllocError> {
+    two_files(alloc, ("a", b"1\n2"), ("b", b""), fail)
+}
+
+fn check_content(rt: &impl Abort, files: &MemFiles, name: &str, want: Option<&[u8]>) {
+    assert_eq!(rt; files.content(name), want, "{name}");
 }
 
 #[test]
 fn load_gives_what_is_within_the_limit(rt: HostRuntime) -> Result<(), Fail> {
-    let mut files = two_files(rt.alloc(), &[])?;
-    assert_eq!(rt; files.load("a", 4)?.as_slice(), b"1\n2".as_slice());
-    assert_eq!(rt; files.load("a", 3)?.as_slice(), b"1\n2".as_slice());
-    assert_eq!(rt; files.load("a", 2).err(), Some(FileFault::TooLong));
-    assert_eq!(rt; files.load("b", 0)?.len(), 0);
-    assert_eq!(rt; files.load("c", 9).err(), Some(FileFault::Failed));
-    assert_eq!(rt; files.content("a"), Some(b"1\n2".as_slice()));
-    assert_eq!(rt; files.content("c"), None);
+    let mut files = a_and_b(rt.alloc(), &[])?;
+    check_load(&rt, &mut files, "a", 4, b"1\n2");
+    check_load(&rt, &mut files, "a", 3, b"1\n2");
+    check_refusal(&rt, &mut files, "a", 2, FileFault::TooLong);
+    check_load(&rt, &mut files, "b", 0, b"");
+    check_refusal(&rt, &mut files, "c", 9, FileFault::Failed);
+    check_content(&rt, &files, "a", Some(b"1\n2"));
+    check_content(&rt, &files, "c", None);
     Ok(())
 }
 
 #[test]
 fn loads_and_stores_fail_by_their_numbers(rt: HostRuntime) -> Result<(), Fail> {
-    let mut files = two_files(rt.alloc(), &[2, 3])?;
-    assert_eq!(rt; files.load("b", 9)?.len(), 0);
-    assert_eq!(rt; files.load("b", 9).err(), Some(FileFault::Failed));
-    assert_eq!(rt; files.store("b", b"x"), FAILED);
-    assert_eq!(rt; files.content("b"), Some(b"".as_slice()));
-    assert_eq!(rt; files.store("b", b"x"), Ok(()));
-    assert_eq!(rt; files.content("a"), Some(b"1\n2".as_slice()));
-    assert_eq!(rt; files.content("b"), Some(b"x".as_slice()));
+    let mut files = a_and_b(rt.alloc(), &[2, 3])?;
+    check_load(&rt, &mut files, "b", 9, b"");
+    check_refusal(&rt, &mut files, "b", 9, FileFault::Failed);
+    assert_eq!(rt; files.store("b", b"x"), Err(StoreFault::Failed));
+    check_content(&rt, &files, "b", Some(b""));
+    check_store(&rt, &mut files, "b", b"x");
+    check_content(&rt, &files, "a", Some(b"1\n2"));
+    check_content(&rt, &files, "b", Some(b"x"));
     Ok(())
 }
 
 #[test]
 fn store_replaces_a_file_and_adds_a_new_one(rt: HostRuntime) -> Result<(), Fail> {
-    let mut files = two_files(rt.alloc(), &[])?;
-    assert_eq!(rt; files.store("a", b"longer than it was"), Ok(()));
-    assert_eq!(rt; files.store("c", b"new"), Ok(()));
-    assert_eq!(rt;
-        files.load("a", 18)?.as_slice(),
-        b"longer than it was".as_slice()
-    );
-    assert_eq!(rt; files.load("c", 3)?.as_slice(), b"new".as_slice());
-    assert_eq!(rt; files.content("b"), Some(b"".as_slice()));
+    let mut files = a_and_b(rt.alloc(), &[])?;
+    check_store(&rt, &mut files, "a", b"longer than it was");
+    check_store(&rt, &mut files, "c", b"new");
+    check_load(&rt, &mut files, "a", 18, b"longer than it was");
+    check_load(&rt, &mut files, "c", 3, b"new");
+    check_content(&rt, &files, "b", Some(b""));
     Ok(())
 }
 
 #[test]
 fn of_two_files_with_one_name_the_first_counts(rt: HostRuntime) -> Result<(), Fail> {
-    let alloc = rt.alloc();
-    let mut list = Vec::new(alloc);
-    for bytes in [b"first".as_slice(), b"second"] {
-        list.push((String::from_str(alloc, "a")?, bytes.to_vec(alloc)?))?;
-    }
-    let mut files = MemFiles::new(list, Vec::new(alloc));
-    assert_eq!(rt; files.load("a", 9)?.as_slice(), b"first".as_slice());
-    assert_eq!(rt; files.store("a", b"third"), Ok(()));
-    assert_eq!(rt; files.load("a", 9)?.as_slice(), b"third".as_slice());
+    let mut files = two_files(rt.alloc(), ("a", b"first"), ("a", b"second"), &[])?;
+    check_load(&rt, &mut files, "a", 9, b"first");
+    check_store(&rt, &mut files, "a", b"third");
+    check_load(&rt, &mut files, "a", 9, b"third");
     Ok(())
 }
