@@ -1,0 +1,4 @@
+pub mod Counts
+pub mod Starts
+pub mod Runs
+pub mod Refusing
