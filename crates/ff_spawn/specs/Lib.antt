@@ -1,4 +1,5 @@
 pub mod Counts
 pub mod Starts
 pub mod Runs
+pub mod Lists
 pub mod Refusing

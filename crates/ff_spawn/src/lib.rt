@@ -4,6 +4,7 @@
 mod fault;
 mod job;
 mod refuse_at;
+mod running_jobs;
 mod spawner;
 mod started;
 mod threads;
@@ -11,6 +12,7 @@ mod threads;
 pub use fault::{Denial, StartFault};
 pub use job::Job;
 pub use refuse_at::RefuseAt;
+pub use running_jobs::RunningJobs;
 pub use spawner::{Counting, Refusals, Spawner};
 pub use started::Started;
 pub use threads::Threads;

@@ -15,7 +15,7 @@ pub struct Threads<R> {
     worked: u64,
 }
 
-impl<R: thread::Threads + Wait + Clone + Drop + Send + 'static> Threads<R> {
+impl<R> Threads<R> {
     /// Nothing was started yet.
     pub fn new(rt: R) -> Threads<R>
         ensures refused { ⟦<Threads<R> as Refusals>⟧.refused result ≡ 0 }
@@ -28,6 +28,27 @@ impl<R: thread::Threads + Wait + Clone + Drop + Send + 'static> Threads<R> {
             starts: 0,
             worked: 0,
         }
+    }
+
+    /// How many starts were refused.
+    pub fn refused(&self) -> u64
+        ensures { result ≡ ⟦<Threads<R> as Refusals>⟧.refused self.now }
+    {
+        self.refused
+    }
+
+    /// How many jobs were started.
+    pub fn starts(&self) -> u64
+        ensures { result ≡ ⟦<Threads<R> as Refusals>⟧.starts self.now }
+    {
+        self.starts
+    }
+
+    /// How much the finished jobs handled.
+    pub fn worked(&self) -> u64
+        ensures { result ≡ ⟦<Threads<R> as Refusals>⟧.worked self.now }
+    {
+        self.worked
     }
 }
 

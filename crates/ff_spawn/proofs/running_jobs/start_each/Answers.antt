@@ -1,0 +1,17 @@
+use Rattle.std.proofs.Common.{◌∙◌, arith}
+use Rattle.ff_spawn.proofs.Finishing.{conserved_push, count_more-reverse}
+use Rattle.ff_spawn.proofs.running_jobs.start_each.Goals as goal
+
+pub loop-job-preserved : goal.loop-job-preserved
+loop-job-preserved g c =
+    let before = c.loop-job.invariant in
+    let popped = c.in-Some.ensures in
+    let started = c.in-Ok.ensures in record {
+      conserved = conserved_push _ _ _ _ _ c.in-Some.job c.in-Ok.started before.conserved popped.items c.push_reserved.ensures.items started.job;
+      length = omega (arith, popped.cases);
+      room = c.push_reserved.ensures.capacity ∙ before.room;
+      capacity = popped.capacity ∙ before.capacity;
+      refused = started.refused ∙ before.refused;
+      starts = count_more-reverse _ _ _ _ _ c.in-Ok.started before.starts started.starts c.push_reserved.ensures.items;
+      worked = started.worked ∙ before.worked;
+    }
