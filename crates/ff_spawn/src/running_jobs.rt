@@ -45,12 +45,15 @@ impl<J: Job + Send + 'static> RunningJobs<J> {
         requires none { self.old.jobs ≡ [] }
         requires room { vec_len jobs.old ≤ self.old.room }
         ensures conserved { jobs.new.items ++ self.new.jobs ≡ jobs.old.items }
+        ensures len { vec_len jobs.new + length self.new.jobs ≡ vec_len jobs.old }
         ensures all { OnOk result (jobs.new.items ≡ []) }
         ensures room { self.new.room ≡ self.old.room }
         ensures capacity { vec_capacity jobs.new ≡ vec_capacity jobs.old }
         ensures refused { S.refused spawner.new ≡ denied_after (S.refused spawner.old) result }
         ensures starts { S.starts spawner.new ≡ count_more (S.starts spawner.old) self.new.jobs }
         ensures worked { S.worked spawner.new ≡ S.worked spawner.old }
+        ensures refused_stays { S.refused spawner.old ≤ S.refused spawner.new }
+        ensures starts_stays { S.starts spawner.old ≤ S.starts spawner.new }
     {
         start_each(alloc, spawner, jobs, &mut self.list)
     }
@@ -62,6 +65,7 @@ impl<J: Job + Send + 'static> RunningJobs<J> {
             (S.worked spawner.old) (S.worked spawner.new) }
         ensures refused { S.refused spawner.new ≡ S.refused spawner.old }
         ensures starts { S.starts spawner.new ≡ S.starts spawner.old }
+        ensures worked_stays { S.worked spawner.old ≤ S.worked spawner.new }
     {
         let RunningJobs { list } = self;
         finish_each(list, spawner, jobs);
@@ -78,6 +82,7 @@ fn start_each<J: Job + Send + 'static, S: Spawner<J>>(
     requires none { reverse list.old.items ≡ [] }
     requires room { vec_len jobs.old ≤ vec_capacity list.old }
     ensures conserved { jobs.new.items ++ reverse list.new.items ≡ jobs.old.items }
+    ensures len { vec_len jobs.new + vec_len list.new ≡ vec_len jobs.old }
     ensures all { OnOk result (jobs.new.items ≡ []) }
     ensures room { vec_capacity list.new ≡ vec_capacity list.old }
     ensures capacity { vec_capacity jobs.new ≡ vec_capacity jobs.old }
@@ -85,6 +90,8 @@ fn start_each<J: Job + Send + 'static, S: Spawner<J>>(
     ensures starts { S.starts spawner.new
         ≡ count_more (S.starts spawner.old) (reverse list.new.items) }
     ensures worked { S.worked spawner.new ≡ S.worked spawner.old }
+    ensures refused_stays { S.refused spawner.old ≤ S.refused spawner.new }
+    ensures starts_stays { S.starts spawner.old ≤ S.starts spawner.new }
 {
     while let Some(job) = jobs.pop() {
         let (back, denial) = match spawner.start(alloc, job) {
@@ -112,6 +119,7 @@ fn finish_each<J: Job + Send + 'static, S: Spawner<J>>(
         jobs.new.items (S.worked spawner.old) (S.worked spawner.new) }
     ensures refused { S.refused spawner.new ≡ S.refused spawner.old }
     ensures starts { S.starts spawner.new ≡ S.starts spawner.old }
+    ensures worked_stays { S.worked spawner.old ≤ S.worked spawner.new }
 {
     let mut list = list;
     while let Some(started) = list.pop() {

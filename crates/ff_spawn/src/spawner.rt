@@ -1,5 +1,5 @@
 // What starts jobs in threads, and counts that.
-ghost use Rattle.std.specs.Prelude.{◌≡◌, ◌↔◌, ℕ, Bool, true, IfOk, IfErr};
+ghost use Rattle.std.specs.Prelude.{◌≡◌, ◌≤◌, ◌↔◌, ℕ, Bool, true, IfOk, IfErr};
 ghost use Rattle.ff_spawn.specs.Counts.{more, more_by, starts_after, refused_after};
 ghost use Rattle.ff_spawn.specs.Starts.{HandsBack, IsRefusal};
 
@@ -44,19 +44,22 @@ pub trait Spawner<J: Job + Send + 'static>: Refusals {
     fn count_refused(&mut self, by: &Counting)
         ensures refused { Self.refused self.new ≡ more (Self.refused self.old) }
         ensures starts { Self.starts self.new ≡ Self.starts self.old }
-        ensures worked { Self.worked self.new ≡ Self.worked self.old };
+        ensures worked { Self.worked self.new ≡ Self.worked self.old }
+        ensures refused_stays { Self.refused self.old ≤ Self.refused self.new };
 
     /// Counts a thread that was started.
     fn count_started(&mut self, by: &Counting)
         ensures refused { Self.refused self.new ≡ Self.refused self.old }
         ensures starts { Self.starts self.new ≡ more (Self.starts self.old) }
-        ensures worked { Self.worked self.new ≡ Self.worked self.old };
+        ensures worked { Self.worked self.new ≡ Self.worked self.old }
+        ensures starts_stays { Self.starts self.old ≤ Self.starts self.new };
 
     /// Counts what a finished job handled.
     fn count_worked(&mut self, by: &Counting, work: u64)
         ensures refused { Self.refused self.new ≡ Self.refused self.old }
         ensures starts { Self.starts self.new ≡ Self.starts self.old }
-        ensures worked { Self.worked self.new ≡ more_by work (Self.worked self.old) };
+        ensures worked { Self.worked self.new ≡ more_by work (Self.worked self.old) }
+        ensures worked_stays { Self.worked self.old ≤ Self.worked self.new };
 
     /// The right by which threads are started and joined.
     fn handle(&self) -> &Self::Handle;
@@ -69,6 +72,8 @@ pub trait Spawner<J: Job + Send + 'static>: Refusals {
         ensures refused { Self.refused self.new ≡ refused_after (Self.refused self.old) result }
         ensures starts { Self.starts self.new ≡ starts_after (Self.starts self.old) result }
         ensures worked { Self.worked self.new ≡ Self.worked self.old }
+        ensures refused_stays { Self.refused self.old ≤ Self.refused self.new }
+        ensures starts_stays { Self.starts self.old ≤ Self.starts self.new }
     {
         let by = Counting(());
         let answer = match self.admit(&by) {
@@ -90,6 +95,7 @@ pub trait Spawner<J: Job + Send + 'static>: Refusals {
         ensures refused { Self.refused self.new ≡ Self.refused self.old }
         ensures starts { Self.starts self.new ≡ Self.starts self.old }
         ensures worked { Self.worked self.new ≡ more_by (J.amount result) (Self.worked self.old) }
+        ensures worked_stays { Self.worked self.old ≤ Self.worked self.new }
     {
         let job = running.join(self.handle());
         self.count_worked(&Counting(()), job.work());

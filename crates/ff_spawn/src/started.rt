@@ -66,10 +66,12 @@ impl<J: Job> Started<J> {
 
 // Starts a thread, and hands the job over to it once it is there: a thread that is refused takes its closure along, and
 // not the job.
-pub(crate) fn start_thread<
-    J: Job + Send + 'static,
-    H: Threads + Wait + Drop + Send + 'static,
->(starter: &H, rt: H, alloc: Global, job: J) -> Result<Started<J>, StartFault<J>>
+pub(crate) fn start_thread<J: Job + Send + 'static, H: Threads + Wait + Drop + Send + 'static>(
+    starter: &H,
+    rt: H,
+    alloc: Global,
+    job: J,
+) -> Result<Started<J>, StartFault<J>>
     ensures job { IfOk result (λ running. running ≡ job) }
     ensures back { IfErr result (HandsBack job) }
 {

@@ -60,10 +60,8 @@ impl<R> Refusals for Threads<R> {
     ghost worked = { λ s. s.worked };
 }
 
-impl<
-    J: Job + Send + 'static,
-    R: thread::Threads + Wait + Clone + Drop + Send + 'static,
-> Spawner<J> for Threads<R> {
+impl<J: Job + Send + 'static, R: thread::Threads + Wait + Clone + Drop + Send + 'static> Spawner<J>
+    for Threads<R> {
     type Handle = R;
 
     ghost denies = { λ _. false };

@@ -8,6 +8,7 @@ loop-started-init g c = record {
   room = c.requires;
   refused = refl;
   starts = refl;
+  worked_stays = omega arith;
 }
 
 pub loop-started-preserved : goal.loop-started-preserved
@@ -16,4 +17,5 @@ loop-started-preserved g c = record {
   room = omega (arith, c.in-Some.ensures.cases);
   refused = c.finish.ensures.refused ∙ c.loop-started.invariant.refused;
   starts = c.finish.ensures.starts ∙ c.loop-started.invariant.starts;
+  worked_stays = omega arith;
 }

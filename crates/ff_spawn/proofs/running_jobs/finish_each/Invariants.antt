@@ -9,6 +9,7 @@ invariant-loop-started g l = record {
   room : vec_len l.jobs + vec_len l.list ≤ vec_capacity l.jobs;
   refused : g.S.Refusals.refused l.spawner ≡ g.S.Refusals.refused l.initial.spawner;
   starts : g.S.Refusals.starts l.spawner ≡ g.S.Refusals.starts l.initial.spawner;
+  worked_stays : g.S.Refusals.worked l.initial.spawner ≤ g.S.Refusals.worked l.spawner;
 }
 
 abbrev pub decreases-loop-started : goal.decreases-loop-started

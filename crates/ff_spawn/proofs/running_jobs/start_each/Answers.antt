@@ -9,9 +9,10 @@ loop-job-preserved g c =
     let started = c.in-Ok.ensures in record {
       conserved = conserved_push _ _ _ _ _ c.in-Some.job c.in-Ok.started before.conserved popped.items c.push_reserved.ensures.items started.job;
       length = omega (arith, popped.cases);
-      room = c.push_reserved.ensures.capacity ∙ before.room;
-      capacity = popped.capacity ∙ before.capacity;
-      refused = started.refused ∙ before.refused;
+      room = omega arith;
+      capacity = omega (arith, popped.capacity);
+      refused = omega (arith, started.refused);
       starts = count_more-reverse _ _ _ _ _ c.in-Ok.started before.starts started.starts c.push_reserved.ensures.items;
-      worked = started.worked ∙ before.worked;
+      starts_stays = omega (arith, started.starts_stays);
+      worked = omega (arith, started.worked);
     }

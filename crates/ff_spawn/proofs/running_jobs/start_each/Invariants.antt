@@ -1,4 +1,4 @@
-use Rattle.std.proofs.Common.{◌≡◌, ◌+◌, ◌++◌, reverse, vec_len, vec_capacity}
+use Rattle.std.proofs.Common.{◌≡◌, ◌+◌, ◌≤◌, ◌++◌, reverse, vec_len, vec_capacity}
 use Rattle.ff_spawn.specs.Counts.{count_more}
 use Rattle.ff_spawn.proofs.running_jobs.start_each.Given as goal
 
@@ -11,6 +11,7 @@ invariant-loop-job g l = record {
   capacity : vec_capacity l.jobs ≡ vec_capacity l.initial.jobs;
   refused : g.S.Refusals.refused l.spawner ≡ g.S.Refusals.refused l.initial.spawner;
   starts : g.S.Refusals.starts l.spawner ≡ count_more (g.S.Refusals.starts l.initial.spawner) (reverse l.list.items);
+  starts_stays : g.S.Refusals.starts l.initial.spawner ≤ g.S.Refusals.starts l.spawner;
   worked : g.S.Refusals.worked l.spawner ≡ g.S.Refusals.worked l.initial.spawner;
 }
 
