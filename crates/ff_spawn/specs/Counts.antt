@@ -1,5 +1,5 @@
 -- The three counts of a spawner, which have 64 bits and stand still at their last value.
-use Rattle.std.specs.Prelude.{ℕ, ◌+◌, ◌-◌, ◌^◌, ◌≤◌, List, [], ◌∷◌, Result, Ok, Err}
+use Rattle.std.specs.Prelude.{ℕ, ◌+◌, ◌≤◌, List, [], ◌∷◌, Result, Ok, Err}
 pub use Rattle.ff_rec.specs.Counts.{more, counted, count_more, Rose}
 use Rattle.ff_spawn.specs.declared.fault.StartFault.{StartFault}
 use Rattle.ff_spawn.specs.declared.fault.StartFault.TheVariants.{Refused, NoMemory}

@@ -4,6 +4,7 @@
 mod fault;
 mod job;
 mod refuse_at;
+mod runner;
 mod running_jobs;
 mod spawner;
 mod started;

@@ -1,17 +1,16 @@
-// A job that runs in a thread, and how it came there and comes back.
-ghost use Rattle.std.specs.Prelude.{◌≡◌, ◌<◌, [], ◌∷◌, ◌++◌, IfOk, IfErr, IfSome};
-ghost use Rattle.rtrb.specs.Ring.{sent, received, known_free, SameConsumer, IsPair};
-ghost use Rattle.ff_spawn.specs.Runs.{RanOne};
+// A job that was handed over to a thread, and how it comes back.
+ghost use Rattle.std.specs.Prelude.{◌≡◌, ◌<◌, [], IfOk, IfErr};
+ghost use Rattle.rtrb.specs.Ring.{sent, known_free, IsPair};
 ghost use Rattle.ff_spawn.specs.Starts.{HandsBack};
 
+use crate::runner::{Ended, RunsItem, spawn_runner};
 use crate::{Job, StartFault};
-use rtrb::{Consumer, Producer, RingBuffer};
+use rtrb::{Producer, RingBuffer};
 use std::alloc::Global;
 use std::marker::Model;
 use std::snapshot::Snapshot;
 use std::sync::{Arc, Wait};
-use std::thread;
-use std::thread::{Parker, Promise, PromisedHandle, Threads};
+use std::thread::{Parker, PromisedHandle, Threads};
 
 /// A job that was started. Contracts see it as that job, as it was then. It is spent by `Spawner::finish`.
 pub struct Started<J: Job> {
@@ -29,21 +28,6 @@ impl<J: Job> Model for Started<J> {
     ghost view = { λ s. s.job.value };
 
     ghost invariant = { λ s. (sent s.producer ≡ s.job.value ∷ []) × IsPair s.producer s.thread.promise.0.value };
-}
-
-// What a thread gives back: the end at which it took its job, and the job after its run.
-#[derive(Drop)]
-struct Ended<J> {
-    consumer: Consumer<J>,
-    job: J,
-}
-
-// The thread runs the one job that it takes at this end.
-#[derive(Drop)]
-struct RunsItem<J>(Snapshot<Consumer<J>>);
-
-impl<J: Job> Promise<Ended<J>> for RunsItem<J> {
-    ghost kept_by = { λ p r. SameConsumer p.0.value r.consumer × RanOne J.done (received r.consumer) r.job };
 }
 
 impl<J: Job> Started<J> {
@@ -84,57 +68,12 @@ pub(crate) fn start_thread<J: Job + Send + 'static, H: Threads + Wait + Drop + S
     let Ok((producer, consumer)) = RingBuffer::new(alloc, 1) else {
         return Err(StartFault::NoMemory(job));
     };
-    let Some(thread) = spawn_reader(starter, rt, bell, consumer) else {
+    let Some(thread) = spawn_runner(starter, rt, bell, consumer) else {
         return Err(StartFault::Refused(job));
     };
     let started = hand_over(producer, thread, job);
     ring.unpark();
     Ok(started)
-}
-
-// Starts a thread that takes a job at this end and runs it.
-fn spawn_reader<J: Job + Send + 'static, H: Threads + Wait + Drop + Send + 'static>(
-    starter: &H,
-    rt: H,
-    bell: Arc<Parker>,
-    consumer: Consumer<J>,
-) -> Option<PromisedHandle<Ended<J>, RunsItem<J>>>
-    requires { received consumer ≡ [] }
-    ensures { IfSome result (λ thread. thread.promise.0.value ≡ consumer) }
-{
-    let promise = RunsItem(Snapshot::of(&consumer));
-    let body = move || -> Ended<J>
-        requires { received consumer ≡ [] }
-        ensures same { SameConsumer consumer result.consumer }
-        ensures ran { RanOne J.done (received result.consumer) result.job }
-    { run_received(&rt, &bell, consumer) };
-    thread::spawn_with(starter, promise, body).ok()
-}
-
-// Runs the job that comes.
-fn run_received<J: Job, R: Wait>(rt: &R, bell: &Parker, consumer: Consumer<J>) -> Ended<J>
-    requires { received consumer ≡ [] }
-    ensures same { SameConsumer consumer result.consumer }
-    ensures ran { RanOne J.done (received result.consumer) result.job }
-{
-    let mut consumer = consumer;
-    let mut job = receive(rt, bell, &mut consumer);
-    job.run();
-    Ended { consumer, job }
-}
-
-// Waits for the next item. The bell is rung once it is there.
-fn receive<J, R: Wait>(rt: &R, bell: &Parker, consumer: &mut Consumer<J>) -> J
-    ensures same { SameConsumer consumer.old consumer.new }
-    ensures received { received consumer.new ≡ received consumer.old ++ result ∷ [] }
-{
-    for _ in rt.forever() {
-        if let Ok(item) = consumer.pop() {
-            return item;
-        }
-        bell.park(rt);
-    }
-    unreachable!()
 }
 
 // Hands the job over. A ring that is fresh has room for it.

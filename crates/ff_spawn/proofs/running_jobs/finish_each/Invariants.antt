@@ -1,4 +1,4 @@
-use Rattle.std.proofs.Common.{◌≡◌, ◌+◌, ◌≤◌, ◌++◌, reverse, vec_len, vec_capacity}
+use Rattle.std.proofs.Common.{◌≡◌, ◌+◌, ◌≤◌, reverse, vec_len, vec_capacity}
 use Rattle.ff_spawn.proofs.Finishing.{FinishesFront}
 use Rattle.ff_spawn.proofs.running_jobs.finish_each.Given as goal
 

@@ -1,6 +1,6 @@
 use Rattle.std.proofs.Common.{◌≡◌}
 use Rattle.rtrb.specs.Ring.{received, SameConsumer}
-use Rattle.ff_spawn.proofs.started.receive.Given as goal
+use Rattle.ff_spawn.proofs.runner.receive.Given as goal
 
 -- nothing was taken yet
 abbrev pub invariant-loop : goal.invariant-loop
