@@ -22,10 +22,11 @@ pub(crate) struct Ended<J> {
 pub(crate) struct RunsItem<J>(pub(crate) Snapshot<Consumer<J>>);
 
 impl<J: Job> Promise<Ended<J>> for RunsItem<J> {
-    ghost kept_by = { λ p r. SameConsumer p.0.value r.consumer × RanOne J.done (received r.consumer) r.job };
+    ghost kept_by = { λ p r. SameConsumer p.0.value r.consumer
+        × RanOne J.done (received r.consumer) r.job };
 }
 
-// Starts a thread that takes a job at this end and runs it.
+/// Starts a thread that takes a job at this end and runs it. The bell is to be rung once the job is there.
 pub(crate) fn spawn_runner<J: Job + Send + 'static, H: Threads + Wait + Drop + Send + 'static>(
     starter: &H,
     rt: H,
@@ -56,7 +57,7 @@ fn run_received<J: Job, R: Wait>(rt: &R, bell: &Parker, consumer: Consumer<J>) -
     Ended { consumer, job }
 }
 
-// Waits for the next item. The bell is rung once it is there.
+// Waits for the next item, for which the bell is rung.
 fn receive<J, R: Wait>(rt: &R, bell: &Parker, consumer: &mut Consumer<J>) -> J
     ensures same { SameConsumer consumer.old consumer.new }
     ensures received { received consumer.new ≡ received consumer.old ++ result ∷ [] }

@@ -8,8 +8,8 @@ use ff_rec::NoMemory;
 use std::alloc::Global;
 use std::marker::Model;
 
-/// Jobs that were started. Contracts see them as they were then, in the order of the list that they come from, and how many
-/// there is room for. They are spent by `finish_all`.
+/// Jobs that were started. Contracts see them as they were then, in the order of the list that they come from, with the
+/// room that there is. `finish_all` alone spends them.
 pub struct RunningJobs<J: Job> {
     // The last of the jobs comes first.
     list: Vec<Started<J>>,
@@ -34,7 +34,7 @@ impl<J: Job + Send + 'static> RunningJobs<J> {
         })
     }
 
-    /// Starts the jobs, the last one first. At the first that can't be started it stops; this one and those before it stay in
+    /// Starts the jobs, the last one first, up to the first that can't be started. This one and those before it stay in
     /// the list.
     pub fn start_all<S: Spawner<J>>(
         &mut self,
@@ -58,7 +58,7 @@ impl<J: Job + Send + 'static> RunningJobs<J> {
         start_each(alloc, spawner, jobs, &mut self.list)
     }
 
-    /// Waits until each thread has ended, and puts the jobs after their runs behind those that are in the list.
+    /// Waits until each thread has ended, and puts the jobs, as they are then, behind those that are in the list.
     pub fn finish_all<S: Spawner<J>>(self, spawner: &mut S, jobs: &mut Vec<J>)
         requires { vec_len jobs.old + length self.jobs ≤ vec_capacity jobs.old }
         ensures finishes { FinishesAll J.done J.amount self.jobs jobs.old.items jobs.new.items

@@ -12,7 +12,7 @@ use std::snapshot::Snapshot;
 use std::sync::{Arc, Wait};
 use std::thread::{Parker, PromisedHandle, Threads};
 
-/// A job that was started. Contracts see it as that job, as it was then. It is spent by `Spawner::finish`.
+/// A job that was started. Contracts see it as that job, as it was then. `Spawner::finish` alone spends it.
 pub struct Started<J: Job> {
     producer: Producer<J>,
     thread: PromisedHandle<Ended<J>, RunsItem<J>>,
@@ -27,11 +27,12 @@ impl<J: Job> Model for Started<J> {
 
     ghost view = { λ s. s.job.value };
 
-    ghost invariant = { λ s. (sent s.producer ≡ s.job.value ∷ []) × IsPair s.producer s.thread.promise.0.value };
+    ghost invariant = { λ s. (sent s.producer ≡ s.job.value ∷ [])
+        × IsPair s.producer s.thread.promise.0.value };
 }
 
 impl<J: Job> Started<J> {
-    // Waits until the thread has ended. The two ends tell that its job is the one that was handed over.
+    /// Waits until the thread has ended. The two ends tell that its job is the one that was handed over.
     pub(crate) fn join<R: Threads>(self, rt: &R) -> J
         ensures { J.done self result }
     {
@@ -48,8 +49,8 @@ impl<J: Job> Started<J> {
     }
 }
 
-// Starts a thread, and hands the job over to it once it is there: a thread that is refused takes its closure along, and
-// not the job.
+/// Starts a thread, and hands the job over once it is there: from a thread that is refused, nothing comes back that its
+/// closure took along.
 pub(crate) fn start_thread<J: Job + Send + 'static, H: Threads + Wait + Drop + Send + 'static>(
     starter: &H,
     rt: H,

@@ -19,7 +19,8 @@ struct Meets<R> {
 }
 
 impl<R: Wait + Drop> Job for Meets<R> {
-    ghost done = { λ before after. (after.number ≡ before.number) × (after.was_there ≡ true) };
+    ghost done = { λ before after. (after.number ≡ before.number)
+        × (after.was_there ≡ true) };
 
     ghost amount = { λ job. job.number };
 
@@ -41,7 +42,8 @@ struct Marks {
 }
 
 impl Job for Marks {
-    ghost done = { λ before after. (after.number ≡ before.number) × (after.runs ≡ more before.runs) };
+    ghost done = { λ before after. (after.number ≡ before.number)
+        × (after.runs ≡ more before.runs) };
 
     ghost amount = { λ job. job.number };
 
@@ -96,7 +98,7 @@ fn jobs_meet_in_threads_of_their_own(rt: HostRuntime) -> Result<(), Fail> {
     Ok(())
 }
 
-// Tries to start three jobs, the third first. It tells how often each ran, and the counts of refusals, starts and work.
+// Tries to start three jobs, the third first. It tells how often each ran, and the three counts.
 fn three_starts<R: thread::Threads + Wait + Clone + Drop + Send + 'static>(
     alloc: Global,
     rt: &R,

@@ -12,7 +12,7 @@ loop-job-preserved g c =
       room = omega arith;
       capacity = omega (arith, popped.capacity);
       refused = omega (arith, started.refused);
-      starts = count_more-reverse _ _ _ c.loop-job.list.items c.push_reserved.new.self.items c.in-Ok.started before.starts started.starts c.push_reserved.ensures.items;
+      starts = count_more-reverse (g.S.Refusals.starts c.args.spawner.now) (g.S.Refusals.starts c.loop-job.spawner) (g.S.Refusals.starts c.start.new.self) c.loop-job.list.items c.push_reserved.new.self.items c.in-Ok.started before.starts started.starts c.push_reserved.ensures.items;
       starts_stays = omega (arith, started.starts_stays);
       worked = omega (arith, started.worked);
     }
