@@ -32,3 +32,6 @@ RoseBy-worked_after amount n (job ∷ jobs) =
     let rest : RoseBy (sum_by amount jobs) (more_by (amount job) n) (worked_after amount n (job ∷ jobs)) = RoseBy-worked_after amount (more_by (amount job) n) jobs in
     let all : sum_by amount (job ∷ jobs) ≡ amount job + sum_by amount jobs = sum_by-cons amount job jobs in
     omega arith
+
+-- for the goals of callers
+pub ruleset count_laws = (RoseBy-count_more, RoseBy-worked_after)
