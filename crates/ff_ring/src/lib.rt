@@ -3,15 +3,18 @@
 
 mod bundle;
 mod inlet;
+mod making;
 mod outlet;
 mod pause;
-mod making;
 mod ring_in;
 mod ring_out;
 mod settling;
 
-pub use pause::Pause;
 pub use making::ring;
+pub use pause::Pause;
 pub use ring_in::RingIn;
 pub use ring_out::RingOut;
 pub use settling::settle;
+
+#[cfg(test)]
+mod tests;

@@ -79,8 +79,7 @@ fn spare_blocks<T: Drop>(
     ensures size { IfOk result (λ r. All (λ b. deque_capacity b ≡ size) (known_items r.1)) }
     ensures place { IfOk result (λ r. 0 < known_free r.0) }
 {
-    let (mut giving, mut spares) =
-        RingBuffer::with_protocol::<Global, Emptied>(alloc, count + 1)?;
+    let (mut giving, mut spares) = RingBuffer::with_protocol::<Global, Emptied>(alloc, count + 1)?;
     for _ in 0..count {
         giving.push_reserved(VecDeque::with_capacity(alloc, size)?);
     }

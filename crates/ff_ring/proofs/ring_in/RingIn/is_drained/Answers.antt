@@ -12,5 +12,5 @@ pub returns-then-not-is_empty-clause-none : goal.returns-then-not-is_empty-claus
 returns-then-not-is_empty-clause-none g c =
     let inn = c.args.self.now in
     let none : there_of inn ≡ [] → length inn.bundle.items ≡ 0 =
-        λ e. length-front inn.bundle.items (flat_map deque_items (known_items inn.inlet.end)) e in
+    λ e. length-front inn.bundle.items (flat_map deque_items (known_items inn.inlet.end)) e in
     (λ never. absurd (false≢true never), λ e. absurd (grind (arith, nat_tests, none e, c.is_empty.ensures, c.if-not-is_empty.true)))
