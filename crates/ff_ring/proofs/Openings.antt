@@ -1,5 +1,5 @@
 -- An end stays open as long as open messages are put.
-use Rattle.std.proofs.Common.{◌≡◌, ℕ, Bool, List, [], ◌∷◌, ◌++◌, sym, subst}
+use Rattle.std.proofs.Common.{ℕ, Bool, List, [], ◌∷◌, ◌++◌, sym, subst}
 use Rattle.ff_rec.specs.Streams.{IsOpen, IsOpenMsg}
 use Rattle.ff_rec.specs.declared.msg.Msg.{Msg}
 use Rattle.ff_port.specs.declared.answers.Put.{Put as PutAnswer}

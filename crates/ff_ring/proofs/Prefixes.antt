@@ -1,5 +1,5 @@
 -- The beginning of a list.
-use Rattle.std.proofs.Common.{◌≡◌, ◌≤◌, List, ◌++◌, length, ap, arith, length-append}
+use Rattle.std.proofs.Common.{◌≤◌, List, length, ap, arith, length-append}
 use mathlib.Core.List.{IsPrefix}
 
 -- it is no longer than the list

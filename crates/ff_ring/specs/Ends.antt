@@ -1,5 +1,5 @@
 -- What contracts see of the two ends of a ring.
-use Rattle.std.specs.Prelude.{◌≡◌, ℕ, ◌+◌, ◌-◌, ◌<◌, ◌≤◌, IsTrue, List, ◌++◌, length, min}
+use Rattle.std.specs.Prelude.{◌≡◌, ℕ, ◌+◌, ◌-◌, ◌<◌, ◌≤◌, Bool, IsTrue, List, ◌++◌, length, min}
 use Rattle.std.specs.List.{flat_map}
 use Rattle.std.proofs.Common.{deque_items, deque_len, deque_capacity}
 use Rattle.ff_rec.specs.Streams.{IsOpenMsg}
@@ -33,6 +33,10 @@ module _ {T : Type 0} where
   abbrev pub room_of : RingOut T → ℕ
   room_of out = hands_of out.outlet + spot_of out
 
+  -- whether the writer hands over what waits as soon as the reader is known to have taken all else
+  abbrev pub is_eager : RingOut T → Bool
+  is_eager out = out.eager
+
   -- the ring that the writer writes
   abbrev pub written_ring : RingOut T → RingName
   written_ring out = name_of out.outlet.end.end
@@ -59,17 +63,18 @@ module _ {T : Type 0} where
     pub single : slots_of out.outlet ≡ 1 → 0 < hands_of out.outlet
 
   -- what was put waits while there is room to hand it over only where the bundle isn't full, the last message ends
-  -- nothing, and the writer isn't eager or knows that the reader has others to take
+  -- nothing, and the writer isn't eager or knows that the reader has others to take; in a ring of one slot nothing waits
   pub record Gathers (last : Msg T) (out : RingOut T) : Type 0 where
     pub full : deque_len out.bundle ≡ deque_capacity out.bundle → hands_of out.outlet ≡ 0
     pub ended : ¬ IsOpenMsg last → 0 < waiting_of out → hands_of out.outlet ≡ 0
-    pub starved : IsTrue out.eager → IsStarved out.outlet → 0 < waiting_of out → hands_of out.outlet ≡ 0
+    pub starved : IsTrue (is_eager out) → IsStarved out.outlet → 0 < waiting_of out → hands_of out.outlet ≡ 0
+    pub single : slots_of out.outlet ≡ 1 → waiting_of out ≡ 0
 
   -- the writing end of a fresh ring of this capacity: eager, with room for more messages than the ring holds bundles, where
   -- it has two slots or more, and for one message where it has one
   pub record IsMade (cap : ℕ) (out : RingOut T) : Type 0 where
     pub size : deque_capacity out.bundle ≡ bundle_size cap
     pub count : slots_of out.outlet ≡ bundle_count cap
-    pub eager : IsTrue out.eager
+    pub eager : IsTrue (is_eager out)
     pub some : 0 < room_of out
     pub more : 2 ≤ cap → (2 ≤ bundle_count cap) × (bundle_count cap < room_of out)

@@ -1,5 +1,4 @@
 -- What tells a ring from all others.
-use Rattle.std.specs.Prelude.{◌≡◌}
 use denote.RawPtr.{Ptr}
 use Rattle.std.specs.declared.alloc.Global.{Global}
 use Rattle.rtrb.specs.Shared.{Names}

@@ -22,7 +22,7 @@ pub(crate) struct Inlet<T> {
 impl<T> Inlet<T> {
     ghost use Rattle.ff_ring.specs.Inlets.{TakesOver, GoesBack};
 
-    // Takes the next bundle in place of an emptied one, which goes back.
+    /// Takes the next bundle in place of an emptied one, which goes back.
     pub(crate) fn take_over(&mut self, bundle: &mut Bundle<T>)
         requires known { 0 < length (known_items self.old.end) }
         requires empty { bundle.old.items ≡ [] }

@@ -60,8 +60,8 @@ fn bundle_size(cap: usize) -> usize
     (cap / 2).clamp(1, FULL_BUNDLE)
 }
 
-// The way on which blocks come back, with one empty block for each slot of the ring. It has one place more, for the block
-// that the reader gives back while the writer has taken none.
+// The way on which blocks come back, with one empty block for each slot of the ring. It has one place more than that, so
+// that each block that comes back finds one.
 fn spare_blocks<T: Drop>(
     alloc: Global,
     count: usize,

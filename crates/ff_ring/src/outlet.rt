@@ -20,7 +20,7 @@ pub(crate) struct Outlet<T> {
 impl<T> Outlet<T> {
     ghost use Rattle.ff_ring.specs.Outlets.{slots_of, hands_of, HandsOver, IsDue, Looks};
 
-    // Hands a bundle over and puts an empty block in its place. It answers whether there was room.
+    /// Hands a bundle over and puts an empty block in its place. It answers whether there was room.
     pub(crate) fn hand_over(&mut self, bundle: &mut Bundle<T>) -> bool
         requires filled { 0 < deque_len bundle.old }
         requires roomy { 0 < deque_capacity bundle.old }
@@ -39,7 +39,7 @@ impl<T> Outlet<T> {
         true
     }
 
-    // Whether a bundle could be handed over.
+    /// Whether a bundle could be handed over.
     pub(crate) fn has_room(&mut self) -> bool
         ensures looked { Looks self.old self.new }
         ensures value { IsTrue result ↔ (0 < hands_of self.new) }
@@ -47,8 +47,8 @@ impl<T> Outlet<T> {
         !self.end.is_full() && !self.spares.is_empty()
     }
 
-    // Whether a bundle is to be handed over before it is full: in a ring of one slot, and by an eager writer where the
-    // reader is seen to have taken all.
+    /// Whether a bundle is to be handed over before it is full: in a ring of one slot, and by an eager writer where the
+    /// reader is seen to have taken all.
     pub(crate) fn is_due(&mut self, eager: bool) -> bool
         ensures looked { Looks self.old self.new }
         ensures value { IsTrue result ↔ IsDue eager self.new }
@@ -56,7 +56,7 @@ impl<T> Outlet<T> {
         self.is_single() || (eager && self.end.slots() == self.end.capacity())
     }
 
-    // Whether the ring has one slot.
+    /// Whether the ring has one slot.
     pub(crate) fn is_single(&self) -> bool
         ensures { IsTrue result ↔ (slots_of self.now ≡ 1) }
     {

@@ -25,7 +25,7 @@ impl<T> RingIn<T> {
     ghost use Rattle.rtrb.specs.Ring.{known_items};
     ghost use Rattle.ff_ring.specs.Ends.{got_of, known_of, there_of, read_ring};
 
-    // An end that nothing reached, with an empty block.
+    /// An end that nothing reached, with an empty block.
     pub(crate) fn new(inlet: Inlet<T>, bundle: Bundle<T>) -> RingIn<T>
         requires roomy { 0 < deque_capacity bundle }
         requires empty { bundle.items ≡ [] }
@@ -36,7 +36,7 @@ impl<T> RingIn<T> {
         RingIn { inlet, bundle }
     }
 
-    // Opens the next bundle.
+    /// Opens the next bundle.
     pub(crate) fn open_next(&mut self)
         requires known { 0 < length (known_items self.old.inlet.end) }
         requires empty { self.old.bundle.items ≡ [] }
@@ -48,7 +48,7 @@ impl<T> RingIn<T> {
         self.inlet.take_over(&mut self.bundle);
     }
 
-    // Whether nothing is left of what is known to be there. The next bundle is opened where the one that is open is empty.
+    /// Whether nothing is left of what is known to be there. The next bundle is opened where the one that is open is empty.
     pub(crate) fn is_drained(&mut self) -> bool
         ensures link { read_ring self.new ≡ read_ring self.old }
         ensures got { got_of self.new ≡ got_of self.old }

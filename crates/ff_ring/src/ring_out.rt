@@ -23,15 +23,15 @@ pub struct RingOut<T> {
 impl<T> RingOut<T> {
     ghost use Rattle.std.specs.Prelude.{◌+◌, ◌-◌, min, ◌∷◌, ◌++◌, ◌≤◌, IsTrue, MatchBool};
     ghost use Rattle.ff_ring.specs.Outlets.{hands_of, slots_of};
-    ghost use Rattle.ff_ring.specs.Ends.{put_of, held_of, room_of, written_ring, HasPlace, Gathers};
+    ghost use Rattle.ff_ring.specs.Ends.{put_of, held_of, room_of, is_eager, written_ring, HasPlace, Gathers};
 
-    // An end that is eager, with an empty bundle.
+    /// An end that is eager, with an empty bundle.
     pub(crate) fn new(outlet: Outlet<T>, bundle: Bundle<T>) -> RingOut<T>
         requires roomy { 0 < deque_capacity bundle }
         requires empty { bundle.items ≡ [] }
         ensures outlet { result.outlet ≡ outlet }
         ensures bundle { result.bundle ≡ bundle }
-        ensures eager { IsTrue result.eager }
+        ensures eager { IsTrue (is_eager result) }
         ensures room { room_of result ≡ hands_of outlet + min 1 (slots_of outlet - 1) }
     {
         RingOut {
@@ -48,7 +48,7 @@ impl<T> RingOut<T> {
         ensures put { put_of self.new ≡ put_of self.old }
         ensures held { held_of self.new ≡ held_of self.old }
         ensures room { room_of self.new ≡ room_of self.old }
-        ensures eager { self.new.eager ≡ eager }
+        ensures eager { is_eager self.new ≡ eager }
     {
         self.eager = eager;
     }
@@ -58,7 +58,7 @@ impl<T> RingOut<T> {
         ensures link { written_ring self.new ≡ written_ring self.old }
         ensures put { put_of self.new ≡ put_of self.old }
         ensures room { room_of self.old ≤ room_of self.new }
-        ensures eager { self.new.eager ≡ self.old.eager }
+        ensures eager { is_eager self.new ≡ is_eager self.old }
         ensures answer { MatchBool result (HasPlace self.new) (room_of self.new ≡ 0) }
     {
         if self.outlet.is_single() {
@@ -76,7 +76,7 @@ impl<T> RingOut<T> {
         ensures link { written_ring self.new ≡ written_ring self.old }
         ensures put { put_of self.new ≡ put_of self.old ++ m ∷ [] }
         ensures room { room_of self.old ≤ room_of self.new + 1 }
-        ensures eager { self.new.eager ≡ self.old.eager }
+        ensures eager { is_eager self.new ≡ is_eager self.old }
         ensures gathers { Gathers m self.new }
     {
         let ends = matches!(m, Msg::Eos | Msg::Abort);
@@ -93,7 +93,7 @@ impl<T> Outbox<T> for RingOut<T> {
     ghost use Rattle.ff_rec.specs.Streams.{IsOpen};
     ghost use Rattle.ff_port.specs.Channels.{Puts};
     ghost use Rattle.ff_ring.specs.Names.{RingName};
-    ghost use Rattle.ff_ring.specs.Ends.{put_of, room_of, waiting_of, written_ring, Gathers};
+    ghost use Rattle.ff_ring.specs.Ends.{put_of, room_of, waiting_of, is_eager, written_ring, Gathers};
 
     ghost put = { λ out. put_of out };
 
@@ -112,7 +112,7 @@ impl<T> Outbox<T> for RingOut<T> {
         ensures link { written_ring self.new ≡ written_ring self.old }
         ensures puts { Puts false (put_of self.old) (room_of self.old) m result
             (put_of self.new) (room_of self.new) }
-        ensures eager { self.new.eager ≡ self.old.eager }
+        ensures eager { is_eager self.new ≡ is_eager self.old }
         ensures gathers { Gathers m self.new }
     {
         if !self.make_room() {
@@ -126,13 +126,10 @@ impl<T> Outbox<T> for RingOut<T> {
         ensures link { written_ring self.new ≡ written_ring self.old }
         ensures puts { put_of self.new ≡ put_of self.old }
         ensures flushed { IsTrue result ↔ (waiting_of self.new ≡ 0) }
-        ensures eager { self.new.eager ≡ self.old.eager }
+        ensures eager { is_eager self.new ≡ is_eager self.old }
         ensures room { room_of self.old ≤ room_of self.new }
         ensures no_room { IsFalse result → room_of self.new ≡ 0 }
     {
-        if self.bundle.is_empty() {
-            return true;
-        }
-        self.outlet.hand_over(&mut self.bundle)
+        self.bundle.is_empty() || self.outlet.hand_over(&mut self.bundle)
     }
 }

@@ -1,4 +1,4 @@
-use Rattle.std.proofs.Common.{◌≡◌, ◌+◌, ◌-◌, min, rules, arith, ◌∙◌, length}
+use Rattle.std.proofs.Common.{◌≡◌, ◌+◌, ◌-◌, min, rules, arith, length}
 use Rattle.rtrb.specs.Ring.{known_free, known_items, producer_capacity}
 use Rattle.ff_ring.specs.Sizes.{bundle_count}
 use Rattle.ff_ring.specs.Ends.{room_of}
