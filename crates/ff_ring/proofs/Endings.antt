@@ -21,7 +21,8 @@ module _ {A : Type 0} where
   EndsWith-drop k all rest e =
       let front = ahead_of rest all in
       EndsWith-append all (front ++ take k rest) (drop k rest)
-      (e ∙ ap (λ xs. front ++ xs) (sym (take-append-drop k rest)) ∙ sym (append_assoc front (take k rest) (drop k rest)))
+      (e ∙ ap (λ xs. front ++ xs) (sym (take-append-drop k rest))
+      ∙ sym (append_assoc front (take k rest) (drop k rest)))
 
   -- what stands before nothing is nothing
   pub length-front : (front rest : List A) → front ++ rest ≡ [] → length front ≡ 0

@@ -63,15 +63,16 @@ module _ {T : Type 0} where
     pub single : slots_of out.outlet ≡ 1 → 0 < hands_of out.outlet
 
   -- what was put waits while there is room to hand it over only where the bundle isn't full, the last message ends
-  -- nothing, and the writer isn't eager or knows that the reader has others to take; in a ring of one slot nothing waits
+  -- nothing, and the writer isn't eager or knows that the reader has others to take; in a ring of one slot nothing
+  -- waits
   pub record Gathers (last : Msg T) (out : RingOut T) : Type 0 where
     pub full : deque_len out.bundle ≡ deque_capacity out.bundle → hands_of out.outlet ≡ 0
     pub ended : ¬ IsOpenMsg last → 0 < waiting_of out → hands_of out.outlet ≡ 0
     pub starved : IsTrue (is_eager out) → IsStarved out.outlet → 0 < waiting_of out → hands_of out.outlet ≡ 0
     pub single : slots_of out.outlet ≡ 1 → waiting_of out ≡ 0
 
-  -- the writing end of a fresh ring of this capacity: eager, with room for more messages than the ring holds bundles, where
-  -- it has two slots or more, and for one message where it has one
+  -- the writing end of a fresh ring of this capacity: eager, with room for more messages than the ring holds bundles,
+  -- where it has two slots or more, and for one message where it has one
   pub record IsMade (cap : ℕ) (out : RingOut T) : Type 0 where
     pub size : deque_capacity out.bundle ≡ bundle_size cap
     pub count : slots_of out.outlet ≡ bundle_count cap

@@ -16,7 +16,8 @@ module _ {T : Type 0} where
   GoesBack spares b spares' = (sent spares' ≡ sent spares ++ b ∷ []) ⊎ (known_free spares' ≡ 0)
 
   -- the next bundle was taken, which isn't empty, and the block that stood in its place went back
-  pub record TakesOver (i : Inlet T) (b : VecDeque (Msg T) Global) (i' : Inlet T) (b' : VecDeque (Msg T) Global) : Type 0 where
+  pub record TakesOver (i : Inlet T) (b : VecDeque (Msg T) Global)
+      (i' : Inlet T) (b' : VecDeque (Msg T) Global) : Type 0 where
     pub ring : SameConsumer i.end i'.end
     pub taken : received i'.end ≡ received i.end ++ b' ∷ []
     pub known : known_items i.end ≡ b' ∷ known_items i'.end

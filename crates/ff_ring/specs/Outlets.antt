@@ -30,5 +30,6 @@ module _ {T : Type 0} where
   -- a bundle was handed over and an empty block stands in its place, or there was no room
   abbrev pub HandsOver : Outlet T → VecDeque (Msg T) Global → Bool → Outlet T → VecDeque (Msg T) Global → Type 0
   HandsOver o b true o' b' =
-      SameProducer o.end o'.end × (sent o'.end ≡ sent o.end ++ b ∷ []) × (b'.items ≡ []) × (hands_of o ≤ hands_of o' + 1)
+      SameProducer o.end o'.end × (sent o'.end ≡ sent o.end ++ b ∷ []) × (b'.items ≡ [])
+      × (hands_of o ≤ hands_of o' + 1)
   HandsOver o b false o' b' = Looks o o' × (b' ≡ b) × (hands_of o' ≡ 0)

@@ -1,4 +1,5 @@
-//! Bounded rings between two threads, which hand messages over in bundles, and the pause of a thread that waits for one.
+//! Bounded rings between two threads, which hand messages over in bundles, and the pause of a thread that waits for
+//! one.
 #![tactic(auto)]
 
 mod bundle;

@@ -19,8 +19,9 @@ use std::thread::Parker;
 // The most messages of a bundle.
 const FULL_BUNDLE: usize = 32;
 
-/// The two ends of a ring that holds about `cap` messages, each with the parker of the other's thread. All memory that the
-/// ring will ever need is taken here. A ring of one slot holds one message; one of more may hold a bundle more at each end.
+/// The two ends of a ring that holds about `cap` messages, each with the parker of the other's thread. All memory
+/// that the ring will ever need is taken here. A ring of one slot holds one message; one of more may hold a bundle
+/// more at each end.
 pub fn ring<T: Drop>(
     alloc: Global,
     cap: usize,
@@ -60,8 +61,8 @@ fn bundle_size(cap: usize) -> usize
     (cap / 2).clamp(1, FULL_BUNDLE)
 }
 
-// The way on which blocks come back, with one empty block for each slot of the ring. It has one place more than that, so
-// that each block that comes back finds one.
+// The way on which blocks come back, with one empty block for each slot of the ring. It has one place more than that,
+// so that each block that comes back finds one.
 fn spare_blocks<T: Drop>(
     alloc: Global,
     count: usize,

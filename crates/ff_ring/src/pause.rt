@@ -15,9 +15,9 @@ const FIRST_PARK: u64 = 2;
 
 const LONGEST_PARK: u64 = 50;
 
-/// The pauses of a thread between its tries, while it finds nothing to do: 1, 2, 4, .. 64 spins, which cost no more than a
-/// message's way, and then parks of 2, 4, .. 50 milliseconds, which the other ends of its rings cut short. It never yields
-/// its time slice, since a busy machine gives the whole slice away.
+/// The pauses of a thread between its tries, while it finds nothing to do: 1, 2, 4, .. 64 spins, which cost no more
+/// than a message's way, and then parks of 2, 4, .. 50 milliseconds, which the other ends of its rings cut short. It
+/// never yields its time slice, since a busy machine gives the whole slice away.
 #[derive(Drop)]
 pub struct Pause {
     parker: Arc<Parker, Global>,
@@ -52,7 +52,8 @@ impl Pause {
         self.millis = FIRST_PARK;
     }
 
-    /// Spins, twice as long as the time before, and answers whether it did. Where it didn't, hand over what waits, and park.
+    /// Spins, twice as long as the time before, and answers whether it did. Where it didn't, hand over what waits,
+    /// and park.
     pub fn spin(&mut self) -> bool
         ensures answer { IsTrue result ↔ (spins_of self.old ≤ 64) }
         ensures spins { spins_of self.new

@@ -48,7 +48,8 @@ impl<T> RingIn<T> {
         self.inlet.take_over(&mut self.bundle);
     }
 
-    /// Whether nothing is left of what is known to be there. The next bundle is opened where the one that is open is empty.
+    /// Whether nothing is left of what is known to be there. The next bundle is opened where the one that is open is
+    /// empty.
     pub(crate) fn is_drained(&mut self) -> bool
         ensures link { read_ring self.new ≡ read_ring self.old }
         ensures got { got_of self.new ≡ got_of self.old }
@@ -69,7 +70,8 @@ impl<T> RingIn<T> {
     fn look(&mut self)
         ensures link { read_ring self.new ≡ read_ring self.old }
         ensures got { got_of self.new ≡ got_of self.old }
-        ensures none { self.new.bundle.items ≡ [] → (known_of self.old ≡ 0) × (known_of self.new ≡ 0) }
+        ensures none { self.new.bundle.items ≡ []
+            → (known_of self.old ≡ 0) × (known_of self.new ≡ 0) }
     {
         if self.bundle.is_empty() && !self.inlet.end.is_empty() {
             self.open_next();

@@ -8,8 +8,8 @@ use crate::outlet::Outlet;
 use ff_port::{Outbox, Put};
 use ff_rec::Msg;
 
-/// The writing end of a ring. It gathers messages and hands them over in bundles. Messages that wait here are handed over
-/// by later puts and by `flush`.
+/// The writing end of a ring. It gathers messages and hands them over in bundles. Messages that wait here are handed
+/// over by later puts and by `flush`.
 #[derive(Drop)]
 pub struct RingOut<T> {
     pub(crate) outlet: Outlet<T>,
@@ -41,8 +41,9 @@ impl<T> RingOut<T> {
         }
     }
 
-    /// Whether a put hands over what waits as soon as the reader is seen to have taken all else, which an end does until it
-    /// is told otherwise. One that isn't eager hands over full bundles and the end of the stream, and the rest at `flush`.
+    /// Whether a put hands over what waits as soon as the reader is seen to have taken all else, which an end does
+    /// until it is told otherwise. One that isn't eager hands over full bundles and the end of the stream, and the
+    /// rest at `flush`.
     pub fn set_eager(&mut self, eager: bool)
         ensures link { written_ring self.new ≡ written_ring self.old }
         ensures put { put_of self.new ≡ put_of self.old }

@@ -70,8 +70,8 @@ fn empties(out: &mut RingOut<u64>, inn: &mut RingIn<u64>) -> u64 {
     10_000
 }
 
-// How many messages a ring takes of a writer whose reader takes none. An eager writer hands its first message over alone. A
-// ring of two slots or more takes one bundle more, at the writer.
+// How many messages a ring takes of a writer whose reader takes none. An eager writer hands its first message over
+// alone. A ring of two slots or more takes one bundle more, at the writer.
 #[test]
 fn a_ring_takes_its_capacity(rt: HostRuntime) -> Result<(), Fail> {
     let cases = [

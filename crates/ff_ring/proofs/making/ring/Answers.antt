@@ -10,7 +10,8 @@ returns-clause-made g c =
     let free : known_free c.in_ok-end.end ≡ bundle_count c.args.cap = search rules in
     let blocks : length (known_items c.in_ok-giving.spares) ≡ bundle_count c.args.cap = search rules in
     let slots : producer_capacity c.in_ok-end.end ≡ bundle_count c.args.cap = search rules in
-    let room : room_of c.new-out.result ≡ bundle_count c.args.cap + min 1 (bundle_count c.args.cap - 1) = omega (arith, c.new-out.ensures.room, free, blocks, slots) in
+    let room : room_of c.new-out.result ≡ bundle_count c.args.cap + min 1 (bundle_count c.args.cap - 1) =
+    omega (arith, c.new-out.ensures.room, free, blocks, slots) in
     record {
       size = search rules;
       count = search rules;

@@ -13,4 +13,5 @@ returns-then-not-is_empty-clause-none g c =
     let inn = c.args.self.now in
     let none : there_of inn ≡ [] → length inn.bundle.items ≡ 0 =
     λ e. length-front inn.bundle.items (flat_map deque_items (known_items inn.inlet.end)) e in
-    (λ never. absurd (false≢true never), λ e. absurd (grind (arith, nat_tests, none e, c.is_empty.ensures, c.if-not-is_empty.true)))
+    let some : there_of inn ≡ [] → ⊥ = λ e. grind (arith, nat_tests, none e, c.is_empty.ensures, c.if-not-is_empty.true) in
+    (λ never. absurd (false≢true never), λ e. absurd (some e))
