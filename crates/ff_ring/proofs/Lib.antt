@@ -1,0 +1,4 @@
+mod Counts
+mod Endings
+mod Openings
+mod Prefixes

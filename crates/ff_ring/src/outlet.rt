@@ -1,0 +1,65 @@
+// Where bundles leave the writer.
+ghost use Rattle.std.specs.Prelude.{◌≡◌, ◌<◌, IsTrue, IsFalse, ◌↔◌};
+ghost use Rattle.std.proofs.Common.{deque_len, deque_capacity};
+
+use crate::bundle::{Bundle, Emptied, Filled};
+use rtrb::{Consumer, Producer};
+use std::alloc::Global;
+use std::mem;
+use std::sync::Arc;
+use std::thread::Parker;
+
+/// The writer's ends of both ways, and the bell of the reader's thread.
+#[derive(Drop)]
+pub(crate) struct Outlet<T> {
+    pub(crate) end: Producer<Bundle<T>, Global, Filled>,
+    pub(crate) spares: Consumer<Bundle<T>, Global, Emptied>,
+    pub(crate) bell: Arc<Parker, Global>,
+}
+
+impl<T> Outlet<T> {
+    ghost use Rattle.ff_ring.specs.Outlets.{slots_of, hands_of, HandsOver, IsDue, Looks};
+
+    /// Hands a bundle over and puts an empty block in its place. It answers whether there was room.
+    pub(crate) fn hand_over(&mut self, bundle: &mut Bundle<T>) -> bool
+        requires filled { 0 < deque_len bundle.old }
+        requires roomy { 0 < deque_capacity bundle.old }
+        ensures exchanged { HandsOver self.old bundle.old result self.new bundle.new }
+        ensures roomy { 0 < deque_capacity bundle.new }
+    {
+        if self.end.is_full() {
+            return false;
+        }
+        let Ok(spare) = self.spares.pop() else {
+            return false;
+        };
+        let filled = mem::replace(bundle, spare);
+        self.end.push_reserved(filled);
+        self.bell.unpark();
+        true
+    }
+
+    /// Whether a bundle could be handed over.
+    pub(crate) fn has_room(&mut self) -> bool
+        ensures looked { Looks self.old self.new }
+        ensures value { IsTrue result ↔ (0 < hands_of self.new) }
+    {
+        !self.end.is_full() && !self.spares.is_empty()
+    }
+
+    /// Whether a bundle is to be handed over before it is full: in a ring of one slot, and by an eager writer where the
+    /// reader is seen to have taken all.
+    pub(crate) fn is_due(&mut self, eager: bool) -> bool
+        ensures looked { Looks self.old self.new }
+        ensures value { IsTrue result ↔ IsDue eager self.new }
+    {
+        self.is_single() || (eager && self.end.slots() == self.end.capacity())
+    }
+
+    /// Whether the ring has one slot.
+    pub(crate) fn is_single(&self) -> bool
+        ensures { IsTrue result ↔ (slots_of self.now ≡ 1) }
+    {
+        self.end.capacity() == 1
+    }
+}

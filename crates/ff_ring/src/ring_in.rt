@@ -1,0 +1,98 @@
+// The reading end of a ring.
+ghost use Rattle.std.specs.Prelude.{◌≡◌, ◌<◌};
+ghost use Rattle.std.specs.List.{flat_map};
+ghost use Rattle.std.proofs.Common.{deque_items, deque_capacity};
+ghost use Rattle.rtrb.specs.Ring.{received};
+ghost use Rattle.ff_ring.specs.Bundles.{EndsWith};
+
+use crate::bundle::Bundle;
+use crate::inlet::Inlet;
+use ff_port::Inbox;
+use ff_rec::Msg;
+
+/// The reading end of a ring. It opens one bundle after another, and gives an emptied block back as it opens the next.
+#[derive(Drop)]
+pub struct RingIn<T> {
+    pub(crate) inlet: Inlet<T>,
+    pub(crate) bundle: Bundle<T>,
+    ghost roomy: { 0 < deque_capacity bundle },
+    // The bundle that is open came last.
+    ghost rest: { EndsWith bundle.items (flat_map deque_items (received inlet.end)) },
+}
+
+impl<T> RingIn<T> {
+    ghost use Rattle.std.specs.Prelude.{◌∷◌, ◌++◌, [], length, true, ◌↔◌, IsTrue};
+    ghost use Rattle.rtrb.specs.Ring.{known_items};
+    ghost use Rattle.ff_ring.specs.Ends.{got_of, known_of, there_of, read_ring};
+
+    /// An end that nothing reached, with an empty block.
+    pub(crate) fn new(inlet: Inlet<T>, bundle: Bundle<T>) -> RingIn<T>
+        requires roomy { 0 < deque_capacity bundle }
+        requires empty { bundle.items ≡ [] }
+        requires none { received inlet.end ≡ [] }
+        ensures inlet { result.inlet ≡ inlet }
+        ensures bundle { result.bundle ≡ bundle }
+    {
+        RingIn { inlet, bundle }
+    }
+
+    /// Opens the next bundle.
+    pub(crate) fn open_next(&mut self)
+        requires known { 0 < length (known_items self.old.inlet.end) }
+        requires empty { self.old.bundle.items ≡ [] }
+        ensures link { read_ring self.new ≡ read_ring self.old }
+        ensures got { got_of self.new ≡ got_of self.old }
+        ensures there { there_of self.new ≡ there_of self.old }
+        ensures some { 0 < length self.new.bundle.items }
+    {
+        self.inlet.take_over(&mut self.bundle);
+    }
+
+    /// Whether nothing is left of what is known to be there. The next bundle is opened where the one that is open is
+    /// empty.
+    pub(crate) fn is_drained(&mut self) -> bool
+        ensures link { read_ring self.new ≡ read_ring self.old }
+        ensures got { got_of self.new ≡ got_of self.old }
+        ensures there { there_of self.new ≡ there_of self.old }
+        ensures none { IsTrue result ↔ (there_of self.new ≡ []) }
+    {
+        if !self.bundle.is_empty() {
+            return false;
+        }
+        if self.inlet.end.cached_slots() == 0 {
+            return true;
+        }
+        self.open_next();
+        false
+    }
+
+    // Opens the next bundle where the one that is open is empty.
+    fn look(&mut self)
+        ensures link { read_ring self.new ≡ read_ring self.old }
+        ensures got { got_of self.new ≡ got_of self.old }
+        ensures none { self.new.bundle.items ≡ []
+            → (known_of self.old ≡ 0) × (known_of self.new ≡ 0) }
+    {
+        if self.bundle.is_empty() && !self.inlet.end.is_empty() {
+            self.open_next();
+        }
+    }
+}
+
+impl<T> Inbox<T> for RingIn<T> {
+    ghost use Rattle.ff_ring.specs.Names.{RingName};
+    ghost use Rattle.ff_ring.specs.Ends.{got_of, known_of, read_ring};
+
+    ghost got = { λ inn. got_of inn };
+
+    ghost known = { λ inn. known_of inn };
+
+    ghost Link = { RingName };
+
+    ghost link = { λ inn. read_ring inn };
+
+    fn try_take(&mut self) -> Option<Msg<T>> {
+        self.look();
+        self.bundle.pop_front()
+    }
+}

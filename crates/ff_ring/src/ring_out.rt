@@ -1,0 +1,136 @@
+// The writing end of a ring.
+ghost use Rattle.std.specs.Prelude.{◌≡◌, ◌<◌, []};
+ghost use Rattle.std.proofs.Common.{deque_capacity};
+ghost use Rattle.rtrb.specs.Ring.{producer_capacity};
+
+use crate::bundle::Bundle;
+use crate::outlet::Outlet;
+use ff_port::{Outbox, Put};
+use ff_rec::Msg;
+
+/// The writing end of a ring. It gathers messages and hands them over in bundles. Messages that wait here are handed
+/// over by later puts and by `flush`.
+#[derive(Drop)]
+pub struct RingOut<T> {
+    pub(crate) outlet: Outlet<T>,
+    pub(crate) bundle: Bundle<T>,
+    eager: bool,
+    ghost roomy: { 0 < deque_capacity bundle },
+    // A ring of one slot holds one message, and not another in the bundle.
+    ghost alone: { producer_capacity outlet.end ≡ 1 → bundle.items ≡ [] },
+}
+
+impl<T> RingOut<T> {
+    ghost use Rattle.std.specs.Prelude.{◌+◌, ◌-◌, min, ◌∷◌, ◌++◌, ◌≤◌, IsTrue, MatchBool};
+    ghost use Rattle.ff_ring.specs.Outlets.{hands_of, slots_of};
+    ghost use Rattle.ff_ring.specs.Ends.{put_of, held_of, room_of, is_eager, written_ring, HasPlace, Gathers};
+
+    /// An end that is eager, with an empty bundle.
+    pub(crate) fn new(outlet: Outlet<T>, bundle: Bundle<T>) -> RingOut<T>
+        requires roomy { 0 < deque_capacity bundle }
+        requires empty { bundle.items ≡ [] }
+        ensures outlet { result.outlet ≡ outlet }
+        ensures bundle { result.bundle ≡ bundle }
+        ensures eager { IsTrue (is_eager result) }
+        ensures room { room_of result ≡ hands_of outlet + min 1 (slots_of outlet - 1) }
+    {
+        RingOut {
+            outlet,
+            bundle,
+            eager: true,
+        }
+    }
+
+    /// Whether a put hands over what waits as soon as the reader is seen to have taken all else, which an end does
+    /// until it is told otherwise. One that isn't eager hands over full bundles and the end of the stream, and the
+    /// rest at `flush`.
+    pub fn set_eager(&mut self, eager: bool)
+        ensures link { written_ring self.new ≡ written_ring self.old }
+        ensures put { put_of self.new ≡ put_of self.old }
+        ensures held { held_of self.new ≡ held_of self.old }
+        ensures room { room_of self.new ≡ room_of self.old }
+        ensures eager { is_eager self.new ≡ eager }
+    {
+        self.eager = eager;
+    }
+
+    // Room for one message more: a full bundle is handed over. It answers whether there is room.
+    fn make_room(&mut self) -> bool
+        ensures link { written_ring self.new ≡ written_ring self.old }
+        ensures put { put_of self.new ≡ put_of self.old }
+        ensures room { room_of self.old ≤ room_of self.new }
+        ensures eager { is_eager self.new ≡ is_eager self.old }
+        ensures answer { MatchBool result (HasPlace self.new) (room_of self.new ≡ 0) }
+    {
+        if self.outlet.is_single() {
+            return self.outlet.has_room();
+        }
+        if self.bundle.len() < self.bundle.capacity() {
+            return true;
+        }
+        self.outlet.hand_over(&mut self.bundle)
+    }
+
+    // Puts a message, and hands the bundle over where that is due.
+    fn add(&mut self, m: Msg<T>)
+        requires { HasPlace self.old }
+        ensures link { written_ring self.new ≡ written_ring self.old }
+        ensures put { put_of self.new ≡ put_of self.old ++ m ∷ [] }
+        ensures room { room_of self.old ≤ room_of self.new + 1 }
+        ensures eager { is_eager self.new ≡ is_eager self.old }
+        ensures gathers { Gathers m self.new }
+    {
+        let ends = matches!(m, Msg::Eos | Msg::Abort);
+        self.bundle.push_back_reserved(m);
+        let full = self.bundle.len() == self.bundle.capacity();
+        if ends || full || self.outlet.is_due(self.eager) {
+            self.outlet.hand_over(&mut self.bundle);
+        }
+    }
+}
+
+impl<T> Outbox<T> for RingOut<T> {
+    ghost use Rattle.std.specs.Prelude.{◌↔◌, ◌≤◌, false, IsTrue, IsFalse};
+    ghost use Rattle.ff_rec.specs.Streams.{IsOpen};
+    ghost use Rattle.ff_port.specs.Channels.{Puts};
+    ghost use Rattle.ff_ring.specs.Names.{RingName};
+    ghost use Rattle.ff_ring.specs.Ends.{put_of, room_of, waiting_of, is_eager, written_ring, Gathers};
+
+    ghost put = { λ out. put_of out };
+
+    ghost room = { λ out. room_of out };
+
+    ghost waiting = { λ out. waiting_of out };
+
+    ghost grows = { false };
+
+    ghost Link = { RingName };
+
+    ghost link = { λ out. written_ring out };
+
+    fn try_put(&mut self, m: Msg<T>) -> Put<T>
+        requires { IsOpen (put_of self.old) }
+        ensures link { written_ring self.new ≡ written_ring self.old }
+        ensures puts { Puts false (put_of self.old) (room_of self.old) m result
+            (put_of self.new) (room_of self.new) }
+        ensures eager { is_eager self.new ≡ is_eager self.old }
+        ensures gathers { Gathers m self.new }
+    {
+        if !self.make_room() {
+            return Put::Full(m);
+        }
+        self.add(m);
+        Put::Done
+    }
+
+    fn flush(&mut self) -> bool
+        ensures link { written_ring self.new ≡ written_ring self.old }
+        ensures puts { put_of self.new ≡ put_of self.old }
+        ensures flushed { IsTrue result ↔ (waiting_of self.new ≡ 0) }
+        ensures eager { is_eager self.new ≡ is_eager self.old }
+        ensures room { room_of self.old ≤ room_of self.new }
+        ensures no_room { IsFalse result → room_of self.new ≡ 0 }
+    {
+        self.bundle.is_empty() || self.outlet.hand_over(&mut self.bundle)
+    }
+}
