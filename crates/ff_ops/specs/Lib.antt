@@ -4,6 +4,7 @@ pub mod Table
 pub mod Given
 pub mod NumberOps
 pub mod Answered
+pub mod Fates
 pub mod FieldOps
 pub mod OrderedOps
 pub mod FoldOps

@@ -1,6 +1,7 @@
 // Operations on the bytes of fields. Fields are counted from 1.
 ghost use Rattle.std.specs.Prelude.{◌≡◌, OnOk, IfOk};
 ghost use Rattle.ff_ops.specs.Answered.{answered};
+ghost use Rattle.ff_ops.specs.Fates.{settled};
 ghost use Rattle.ff_ops.specs.FieldOps.{field_answer};
 
 mod edits;
@@ -8,15 +9,15 @@ mod fields;
 mod filters;
 mod several;
 
-use crate::Needle;
+use crate::{Fate, Needle};
 use edits::{
     append_copy, drop_field, keep_field, set_field, set_len, set_lowercase, set_uppercase,
     swap_fields,
 };
 use ff_node::{Class, Next, Node, Sends};
 use ff_rec::{Field, Kept, NoMemory, Record};
-use filters::{contains, equals, pass};
-use several::{send_times, split_words};
+use filters::{contains, equals};
+use several::{send_copies_before, split_words};
 
 /// An operation that works on the bytes of fields. It rejects a record whose field isn't there.
 #[derive(Debug, Drop)]
@@ -50,20 +51,30 @@ impl FieldOp {
     fn answer(&self, r: Record, out: &mut Sends) -> Result<(), NoMemory>
         ensures { OnOk result (out.new ≡ answered out.old (field_answer self.now r) r) }
     {
+        let mut r = r;
+        let fate = self.decide(&mut r, out)?;
+        fate.settle(r, out)
+    }
+
+    // Sends what the row sends before the record itself, and changes the record where it is sent in another form.
+    fn decide(&self, r: &mut Record, out: &mut Sends) -> Result<Fate, NoMemory>
+        ensures { IfOk result (λ fate. settled fate out.new r.new
+            ≡ answered out.old (field_answer self.now r.old) r.old) }
+    {
         match self {
-            FieldOp::Id => out.send(r),
-            FieldOp::Set(f, text) => set_field(*f, text, r, out),
-            FieldOp::Keep(f) => keep_field(*f, r, out),
-            FieldOp::Drop(f) => drop_field(*f, r, out),
-            FieldOp::Swap(f, g) => swap_fields(*f, *g, r, out),
-            FieldOp::Copy(f) => append_copy(*f, r, out),
-            FieldOp::Len(f) => set_len(*f, r, out),
-            FieldOp::Upper(f) => set_uppercase(*f, r, out),
-            FieldOp::Lower(f) => set_lowercase(*f, r, out),
-            FieldOp::IfEq(f, text) => pass(equals(*f, text, &r), r, out),
-            FieldOp::Has(f, text) => pass(contains(*f, text, &r), r, out),
+            FieldOp::Id => Ok(Fate::Sent),
+            FieldOp::Set(f, text) => set_field(*f, text, r),
+            FieldOp::Keep(f) => keep_field(*f, r),
+            FieldOp::Drop(f) => drop_field(*f, r),
+            FieldOp::Swap(f, g) => swap_fields(*f, *g, r),
+            FieldOp::Copy(f) => append_copy(*f, r),
+            FieldOp::Len(f) => set_len(*f, r),
+            FieldOp::Upper(f) => set_uppercase(*f, r),
+            FieldOp::Lower(f) => set_lowercase(*f, r),
+            FieldOp::IfEq(f, text) => Ok(Fate::of(equals(*f, text, r))),
+            FieldOp::Has(f, text) => Ok(Fate::of(contains(*f, text, r))),
             FieldOp::Words(f) => split_words(*f, r, out),
-            FieldOp::Dup(n) => send_times(*n, r, out),
+            FieldOp::Dup(n) => send_copies_before(*n, r, out),
         }
     }
 }

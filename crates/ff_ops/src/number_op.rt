@@ -1,10 +1,13 @@
 // Operations on a number in a field.
-ghost use Rattle.std.specs.Prelude.{◌≡◌, ◌≤◌, length, OnSome};
-ghost use Rattle.ff_ops.specs.NumberOps.{answer_for, same_if, becomes, decided};
+ghost use Rattle.std.specs.Prelude.{◌≡◌, ◌≤◌, length, IfOk, OnSome};
+ghost use Rattle.ff_ops.specs.Answered.{answered};
+ghost use Rattle.ff_ops.specs.Fates.{settled};
+ghost use Rattle.ff_ops.specs.NumberOps.{answer_for, same_if, becomes, decided, number_answer};
 
 mod answer;
 mod arithmetic;
 
+use crate::Fate;
 use answer::Answer;
 use arithmetic::{difference, halves, negated, product, quotient, remainder, sum};
 use ff_node::{Class, Next, Node, Sends};
@@ -74,6 +77,19 @@ impl NumberOp {
     }
 }
 
+impl NumberOp {
+    // Sends the first of two records, and makes the record the one that is sent behind it.
+    fn answer(&self, r: &mut Record, out: &mut Sends) -> Result<Fate, NoMemory>
+        ensures { IfOk result (λ fate. settled fate out.new r.new
+            ≡ answered out.old (number_answer self.now r.old) r.old) }
+    {
+        match self.decide(r) {
+            Some(answer) => answer.make(self.field, r, out),
+            None => Ok(Fate::Rejected),
+        }
+    }
+}
+
 // The answer that a number takes the place of the one in the field, where there is one.
 fn becomes(n: Option<i64>) -> Option<Answer>
     ensures { result ≡ becomes n }
@@ -114,10 +130,9 @@ impl Node for NumberOp {
     fn svc_init(&mut self) {}
 
     fn svc(&mut self, r: Record, out: &mut Sends) -> Result<Next, NoMemory> {
-        match self.decide(&r) {
-            Some(answer) => answer.send(self.field, r, out)?,
-            None => out.reject(r)?,
-        }
+        let mut r = r;
+        let fate = self.answer(&mut r, out)?;
+        fate.settle(r, out)?;
         Ok(Next::GoOn)
     }
 

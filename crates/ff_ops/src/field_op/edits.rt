@@ -1,124 +1,106 @@
-// Rows that change a record's fields and send it. What is missing shows before anything changes.
-ghost use Rattle.std.specs.Prelude.{◌≡◌, OnOk};
-ghost use Rattle.ff_ops.specs.Answered.{answered};
+// Rows that change a record's fields, so that it is sent. What is missing shows before anything changes.
+ghost use Rattle.std.specs.Prelude.{IfOk};
+ghost use Rattle.ff_ops.specs.Fates.{Answers};
 ghost use Rattle.ff_ops.specs.FieldOps.{field_answer};
 ghost use Rattle.ff_ops.specs.declared.field_op.FieldOp.TheVariants.{Set, Keep, Drop, Swap, Copy, Len, Upper, Lower};
 
 use super::fields::{field_copy, has_field};
-use ff_node::Sends;
+use crate::Fate;
 use ff_rec::{Field, MOST_FIELDS, NoMemory, Record};
 
 /// `set F "T"`
-#[inline(never)]
-pub(crate) fn set_field(
-    f: usize,
-    text: &Field,
-    mut r: Record,
-    out: &mut Sends,
-) -> Result<(), NoMemory>
-    ensures { OnOk result (out.new ≡ answered out.old (field_answer (Set f text.now) r) r) }
+pub(crate) fn set_field(f: usize, text: &Field, r: &mut Record) -> Result<Fate, NoMemory>
+    ensures { IfOk result (λ fate. Answers fate (field_answer (Set f text.now) r.old) r.old r.new) }
 {
-    if !has_field(f, &r) {
-        return out.reject(r);
+    if !has_field(f, r) {
+        return Ok(Fate::Rejected);
     }
     r.set(f, text)?;
-    out.send(r)
+    Ok(Fate::Sent)
 }
 
 /// `keep F`
-#[inline(never)]
-pub(crate) fn keep_field(f: usize, mut r: Record, out: &mut Sends) -> Result<(), NoMemory>
-    ensures { OnOk result (out.new ≡ answered out.old (field_answer (Keep f) r) r) }
+pub(crate) fn keep_field(f: usize, r: &mut Record) -> Result<Fate, NoMemory>
+    ensures { IfOk result (λ fate. Answers fate (field_answer (Keep f) r.old) r.old r.new) }
 {
-    if !has_field(f, &r) {
-        return out.reject(r);
+    if !has_field(f, r) {
+        return Ok(Fate::Rejected);
     }
     r.keep_only(f);
-    out.send(r)
+    Ok(Fate::Sent)
 }
 
 /// `drop F`
-#[inline(never)]
-pub(crate) fn drop_field(f: usize, mut r: Record, out: &mut Sends) -> Result<(), NoMemory>
-    ensures { OnOk result (out.new ≡ answered out.old (field_answer (Drop f) r) r) }
+pub(crate) fn drop_field(f: usize, r: &mut Record) -> Result<Fate, NoMemory>
+    ensures { IfOk result (λ fate. Answers fate (field_answer (Drop f) r.old) r.old r.new) }
 {
-    if !has_field(f, &r) || r.len() == 1 {
-        return out.reject(r);
+    if !has_field(f, r) || r.len() == 1 {
+        return Ok(Fate::Rejected);
     }
     r.remove(f);
-    out.send(r)
+    Ok(Fate::Sent)
 }
 
 /// `swap F G`
-#[inline(never)]
-pub(crate) fn swap_fields(
-    f: usize,
-    g: usize,
-    mut r: Record,
-    out: &mut Sends,
-) -> Result<(), NoMemory>
-    ensures { OnOk result (out.new ≡ answered out.old (field_answer (Swap f g) r) r) }
+pub(crate) fn swap_fields(f: usize, g: usize, r: &mut Record) -> Result<Fate, NoMemory>
+    ensures { IfOk result (λ fate. Answers fate (field_answer (Swap f g) r.old) r.old r.new) }
 {
-    if !has_field(f, &r) || !has_field(g, &r) {
-        return out.reject(r);
+    if !has_field(f, r) || !has_field(g, r) {
+        return Ok(Fate::Rejected);
     }
     r.swap(f, g)?;
-    out.send(r)
+    Ok(Fate::Sent)
 }
 
 /// `copy F`
-#[inline(never)]
-pub(crate) fn append_copy(f: usize, mut r: Record, out: &mut Sends) -> Result<(), NoMemory>
-    ensures { OnOk result (out.new ≡ answered out.old (field_answer (Copy f) r) r) }
+pub(crate) fn append_copy(f: usize, r: &mut Record) -> Result<Fate, NoMemory>
+    ensures { IfOk result (λ fate. Answers fate (field_answer (Copy f) r.old) r.old r.new) }
 {
-    let Some(field) = field_copy(f, &r)? else {
-        return out.reject(r);
+    let Some(field) = field_copy(f, r)? else {
+        return Ok(Fate::Rejected);
     };
     if r.len() == MOST_FIELDS {
-        return out.reject(r);
+        return Ok(Fate::Rejected);
     }
     match r.push(&field) {
-        Ok(()) => out.send(r),
+        Ok(()) => Ok(Fate::Sent),
         Err(_) => Err(NoMemory),
     }
 }
 
 /// `len F`
-#[inline(never)]
-pub(crate) fn set_len(f: usize, mut r: Record, out: &mut Sends) -> Result<(), NoMemory>
-    ensures { OnOk result (out.new ≡ answered out.old (field_answer (Len f) r) r) }
+pub(crate) fn set_len(f: usize, r: &mut Record) -> Result<Fate, NoMemory>
+    ensures { IfOk result (λ fate. Answers fate (field_answer (Len f) r.old) r.old r.new) }
 {
     match r.field(f).map(|bytes| bytes.len() as i64) {
         Some(length) => {
             r.set_number(f, length)?;
-            out.send(r)
+            Ok(Fate::Sent)
         }
-        None => out.reject(r),
+        None => Ok(Fate::Rejected),
     }
 }
 
 /// `upper F`
-#[inline(never)]
-pub(crate) fn set_uppercase(f: usize, mut r: Record, out: &mut Sends) -> Result<(), NoMemory>
-    ensures { OnOk result (out.new ≡ answered out.old (field_answer (Upper f) r) r) }
+pub(crate) fn set_uppercase(f: usize, r: &mut Record) -> Result<Fate, NoMemory>
+    ensures { IfOk result (λ fate. Answers fate (field_answer (Upper f) r.old) r.old r.new) }
 {
-    let Some(mut field) = field_copy(f, &r)? else {
-        return out.reject(r);
+    let Some(mut field) = field_copy(f, r)? else {
+        return Ok(Fate::Rejected);
     };
     field.make_ascii_uppercase();
     r.set(f, &field)?;
-    out.send(r)
+    Ok(Fate::Sent)
 }
 
 /// `lower F`
-#[inline(never)]
-pub(crate) fn set_lowercase(f: usize, mut r: Record, out: &mut Sends) -> Result<(), NoMemory>
-    ensures { OnOk result (out.new ≡ answered out.old (field_answer (Lower f) r) r) }
+pub(crate) fn set_lowercase(f: usize, r: &mut Record) -> Result<Fate, NoMemory>
+    ensures { IfOk result (λ fate. Answers fate (field_answer (Lower f) r.old) r.old r.new) }
 {
-    let Some(mut field) = field_copy(f, &r)? else {
-        return out.reject(r);
+    let Some(mut field) = field_copy(f, r)? else {
+        return Ok(Fate::Rejected);
     };
     field.make_ascii_lowercase();
     r.set(f, &field)?;
-    out.send(r)
+    Ok(Fate::Sent)
 }

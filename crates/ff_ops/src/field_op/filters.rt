@@ -1,25 +1,11 @@
-// Rows that send a record as it came, or nothing.
-ghost use Rattle.std.specs.Prelude.{◌≡◌, OnOk};
+// Rows that send a record as it came, or nothing: whether it passes.
+ghost use Rattle.std.specs.Prelude.{◌≡◌};
 ghost use Rattle.std.specs.Option.{option_map};
 ghost use Rattle.ff_rec.specs.Fields.{field_at, same_bytes};
-ghost use Rattle.ff_ops.specs.Answered.{answered};
 ghost use Rattle.ff_ops.specs.FieldOps.{occurs};
-ghost use Rattle.ff_ops.specs.Rows.{sent_if};
 
 use crate::Needle;
-use ff_node::Sends;
-use ff_rec::{Field, NoMemory, Record};
-
-/// Sends a record that passes, lets one go that doesn't, and rejects one without the field that is asked for.
-pub(crate) fn pass(passes: Option<bool>, r: Record, out: &mut Sends) -> Result<(), NoMemory>
-    ensures { OnOk result (out.new ≡ answered out.old (option_map (λ passes. sent_if passes r) passes) r) }
-{
-    match passes {
-        Some(true) => out.send(r),
-        Some(false) => Ok(()),
-        None => out.reject(r),
-    }
-}
+use ff_rec::{Field, Record};
 
 /// Whether field `f` is a text.
 pub(crate) fn equals(f: usize, text: &Field, r: &Record) -> Option<bool>

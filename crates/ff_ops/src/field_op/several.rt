@@ -1,24 +1,27 @@
 // Rows that send several records for one.
-ghost use Rattle.std.specs.Prelude.{◌≡◌, [], ◌∷◌, map, replicate, OnOk};
+ghost use Rattle.std.specs.Prelude.{◌≡◌, [], ◌∷◌, map, replicate, IfOk, OnOk};
 ghost use Rattle.ff_rec.specs.Lines.{IsPlain};
 ghost use Rattle.ff_node.specs.Sends.{add};
 ghost use Rattle.ff_ops.specs.Answered.{answered};
+ghost use Rattle.ff_ops.specs.Fates.{settled};
 ghost use Rattle.ff_ops.specs.FieldOps.{field_answer, words};
-ghost use Rattle.ff_ops.specs.declared.field_op.FieldOp.TheVariants.{Words};
+ghost use Rattle.ff_ops.specs.declared.field_op.FieldOp.TheVariants.{Words, Dup};
 
+use crate::Fate;
 use ff_node::Sends;
 use ff_rec::{Kept, NoMemory, Record, split_near};
 use std::alloc::Global;
 
 /// `words F`
-#[inline(never)]
-pub(crate) fn split_words(f: usize, r: Record, out: &mut Sends) -> Result<(), NoMemory>
-    ensures { OnOk result (out.new ≡ answered out.old (field_answer (Words f) r) r) }
+pub(crate) fn split_words(f: usize, r: &Record, out: &mut Sends) -> Result<Fate, NoMemory>
+    ensures { IfOk result (λ fate. settled fate out.new r.now
+        ≡ answered out.old (field_answer (Words f) r.now) r.now) }
 {
-    match r.field(f) {
-        Some(bytes) => send_words(r.allocator(), bytes, out),
-        None => out.reject(r),
-    }
+    let Some(bytes) = r.field(f) else {
+        return Ok(Fate::Rejected);
+    };
+    send_words(r.allocator(), bytes, out)?;
+    Ok(Fate::Dropped)
 }
 
 // Sends a record for each longest run of bytes other than space.
@@ -38,15 +41,15 @@ fn send_words(alloc: Global, bytes: &[u8], out: &mut Sends) -> Result<(), NoMemo
 }
 
 /// `dup N`: the record itself goes last.
-#[inline(never)]
-pub(crate) fn send_times(n: usize, r: Record, out: &mut Sends) -> Result<(), NoMemory>
-    ensures { OnOk result (out.new ≡ add out.old (replicate n r) []) }
+pub(crate) fn send_copies_before(n: usize, r: &Record, out: &mut Sends) -> Result<Fate, NoMemory>
+    ensures { IfOk result (λ fate. settled fate out.new r.now
+        ≡ answered out.old (field_answer (Dup n) r.now) r.now) }
 {
     if n == 0 {
-        return Ok(());
+        return Ok(Fate::Dropped);
     }
-    send_copies(n - 1, &r, out)?;
-    out.send(r)
+    send_copies(n - 1, r, out)?;
+    Ok(Fate::Sent)
 }
 
 // Sends copies of a record.

@@ -1,9 +1,11 @@
 // What becomes of a record that isn't rejected.
-ghost use Rattle.std.specs.Prelude.{◌≡◌, ◌≤◌, [], ◌∷◌, length, OnOk};
+ghost use Rattle.std.specs.Prelude.{◌≡◌, ◌≤◌, [], ◌∷◌, length, IfOk, OnOk};
 ghost use Rattle.ff_node.specs.Sends.{add};
+ghost use Rattle.ff_ops.specs.Fates.{settled};
 ghost use Rattle.ff_ops.specs.NumberOps.{sent_by};
 ghost use Rattle.ff_ops.specs.Rows.{with_number};
 
+use crate::Fate;
 use ff_node::Sends;
 use ff_rec::{Kept, NoMemory, Record};
 
@@ -21,31 +23,38 @@ pub(crate) enum Answer {
 }
 
 impl Answer {
-    /// Sends what this says.
-    pub(super) fn send(self, field: usize, r: Record, out: &mut Sends) -> Result<(), NoMemory>
+    /// Sends the first of two records, and makes the record the one that is sent behind it.
+    pub(super) fn make(
+        self,
+        field: usize,
+        r: &mut Record,
+        out: &mut Sends,
+    ) -> Result<Fate, NoMemory>
         requires low { 1 ≤ field }
-        requires high { field ≤ length r }
-        ensures { OnOk result (out.new ≡ add out.old (sent_by self field r) []) }
+        requires high { field ≤ length r.old }
+        ensures { IfOk result (λ fate. settled fate out.new r.new
+            ≡ add out.old (sent_by self field r.old) []) }
     {
         match self {
-            Answer::Nothing => Ok(()),
-            Answer::Same => out.send(r),
-            Answer::Becomes(n) => send_with(r, field, n, out),
+            Answer::Nothing => return Ok(Fate::Dropped),
+            Answer::Same => return Ok(Fate::Sent),
+            Answer::Becomes(n) => r.set_number(field, n)?,
             Answer::Halves(half, rest) => {
-                let first = r.copy()?;
-                send_with(first, field, half, out)?;
-                send_with(r, field, rest, out)
+                send_copy(r, field, half, out)?;
+                r.set_number(field, rest)?;
             }
         }
+        Ok(Fate::Sent)
     }
 }
 
-// Sends the record with a number in the field.
-fn send_with(mut r: Record, field: usize, n: i64, out: &mut Sends) -> Result<(), NoMemory>
+// Sends a copy of the record with a number in the field.
+fn send_copy(r: &Record, field: usize, n: i64, out: &mut Sends) -> Result<(), NoMemory>
     requires low { 1 ≤ field }
-    requires high { field ≤ length r }
-    ensures { OnOk result (out.new ≡ add out.old (with_number field n r ∷ []) []) }
+    requires high { field ≤ length r.now }
+    ensures { OnOk result (out.new ≡ add out.old (with_number field n r.now ∷ []) []) }
 {
-    r.set_number(field, n)?;
-    out.send(r)
+    let mut first = r.copy()?;
+    first.set_number(field, n)?;
+    out.send(first)
 }
