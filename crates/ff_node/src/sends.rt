@@ -47,17 +47,27 @@ impl Sends {
     }
 
     /// Adds a record to those sent. After a refusal nothing changed.
+    #[inline]
     pub fn send(&mut self, r: Record) -> Result<(), NoMemory>
         ensures ok { OnOk result (self.new ≡ add self.old (r ∷ []) []) }
         ensures err { OnErr result (self.new ≡ self.old) }
     {
-        if self.first.is_none() && self.more.is_empty() {
-            self.first = Some(r);
-        } else {
-            // Room first: a refused push would hand the record back, and so move it once more.
-            self.more.reserve(1)?;
-            self.more.push_back_reserved(r);
+        if self.first.is_some() || !self.more.is_empty() {
+            return self.send_behind(r);
         }
+        self.first = Some(r);
+        Ok(())
+    }
+
+    // Adds a record behind those in the queue. It stands apart, so that the first send of a node is quick.
+    #[inline(never)]
+    fn send_behind(&mut self, r: Record) -> Result<(), NoMemory>
+        ensures ok { OnOk result (self.new ≡ add self.old (r ∷ []) []) }
+        ensures err { OnErr result (self.new ≡ self.old) }
+    {
+        // Room first: a refused push would hand the record back, and so move it once more.
+        self.more.reserve(1)?;
+        self.more.push_back_reserved(r);
         Ok(())
     }
 

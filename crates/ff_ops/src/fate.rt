@@ -30,6 +30,7 @@ impl Fate {
     }
 
     /// Sends the record, lets it go or rejects it.
+    #[inline]
     pub(crate) fn settle(self, r: Record, out: &mut Sends) -> Result<(), NoMemory>
         ensures { OnOk result (out.new ≡ settled self out.old r) }
     {

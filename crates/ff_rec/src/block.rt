@@ -11,6 +11,7 @@ use crate::{NoMemory, split_near};
 pub use edits::{exchange, keep, take_out};
 
 /// Where field `k` of a block of `count` fields, counted from 0, begins and ends.
+#[inline]
 pub fn place(block: &[u8], count: usize, k: usize) -> (usize, usize)
     requires count { count ≡ length (cut 9 block.now) }
     requires there { k < length (cut 9 block.now) }
