@@ -1,14 +1,12 @@
 -- What came of the bytes, in the words of the whole text.
-use Rattle.std.proofs.Common.{◌≡◌, ℕ, Bool, true, false, cond, List, [], ◌++◌, ◌⊎◌, None, Some, Ok, Err, refl, sym, ap, ◌∙◌, inl, inr, append_assoc, append-nil, subst}
-use Rattle.std.specs.Prelude.{Option, Result, option_map}
+use Rattle.std.proofs.Common.{◌≡◌, ℕ, Bool, true, false, cond, List, [], ◌++◌, None, Some, Ok, Err, refl, sym, ap, ◌∙◌, inl, inr, append_assoc, append-nil, subst}
+use Rattle.std.specs.Prelude.{Option, option_map}
 use Rattle.std.specs.Io.KnownBytes.{Appends, Consumes, Keeps}
-use Rattle.std.proofs.KnownBytes.{Appends-nil, Appends-trans, Consumes-nil, Keeps-refl, Keeps-trans}
-use Rattle.ff_rec.specs.Counts.{more}
-use Rattle.ff_rec.specs.declared.fault.FeedFault.{FeedFault}
+use Rattle.std.proofs.KnownBytes.{Appends-nil, Appends-trans, Consumes-nil, Keeps-trans}
 use Rattle.ff_rec.specs.declared.fault.FeedFault.TheVariants.{Line as Passed}
 use Rattle.ff_rec.specs.declared.fault.LineFault.{LineFault}
 use Rattle.ff_rec.specs.Limits.{ReadingLaw}
-use Rattle.ff_rec.specs.Lines.{Rec, text}
+use Rattle.ff_rec.specs.Lines.{Rec}
 use Rattle.ff_rec.specs.Reading.{Reading, opening, after, given, last_given}
 use Rattle.ff_net.specs.Versions.{line_bytes, input_bytes, limit_by, seen_by}
 use Rattle.ff_net.specs.declared.net.Version.{Version}
@@ -16,8 +14,7 @@ use Rattle.ff_stream.specs.Endings.{Begun, CountsInput, IsCutShort, IsReadOut, R
 use Rattle.ff_stream.specs.Jobs.{Job}
 use Rattle.ff_stream.specs.Reads.{Reads, ReadsSome, StopsAt, last_of}
 use Rattle.ff_stream.specs.Streams.{Streams}
-use Rattle.ff_stream.specs.Works.{Breaks, Ends, Finishes, Goes, IsOpen}
-use Rattle.ff_stream.specs.declared.ending.Ending.{Ending}
+use Rattle.ff_stream.specs.Works.{Finishes, Goes, Halts, IsOpen}
 use Rattle.ff_stream.specs.declared.ending.Report.{Report}
 use Rattle.ff_stream.specs.declared.ending.Stop.{Stop}
 use Rattle.ff_stream.specs.declared.ending.Stop.TheVariants.{End, Read, Line}
@@ -25,7 +22,7 @@ use Rattle.ff_stream.specs.declared.fault.Halt.{Halt}
 use Rattle.ff_stream.specs.declared.fault.Halt.TheVariants.{Write, NoMemory}
 use Rattle.ff_stream.specs.declared.fault.RunFault.{RunFault}
 use Rattle.ff_stream.specs.declared.fault.RunFault.TheVariants.{Tasks, Write as WriteFault, NoMemory as NoMemoryFault}
-use Rattle.ff_stream.proofs.Goings.{Breaks-after, Breaks-from, Goes-from, Goes-trans}
+use Rattle.ff_stream.proofs.Goings.{Goes-from, Goes-trans, Halts-after, Halts-from, IsOpen-halts}
 
 -- the first reading of a text within the limits of a version
 abbrev pub start : Version → Reading
@@ -106,27 +103,36 @@ module _ {N W : Type 0} (stands : Job N → W → List Rec → List ℕ → Type
   records-given got = given-seen law v got s.ended ∙ ap (λ (u : Version). seen_by u got s.ended) (sym is)
 
   -- it broke off while there was more to read, or at the last line
-  IsCutShort-opened : (halt : Halt) (got : List ℕ) (xs others : List Rec) → Consumes s.left s.left_now got → xs ++ others ≡ records_of j s got
-      → Breaks stands w xs halt s.taken s.taken_now → IsCutShort j s halt
-  IsCutShort-opened halt got xs others read all breaks =
-      let opened = breaks.opens j [] [] at in
-      let follows : (zs : List Rec) → Begun j halt (records_of j s got ++ zs) breaks.put =
-      λ zs. subst (λ l. Begun j halt l breaks.put) (sym (append_assoc xs others zs) ∙ ap (λ l. l ++ zs) all) (opened.begun (others ++ zs)) in
+  IsCutShort-opened : (halt : Halt) (got put : List ℕ) (xs others : List Rec) → Consumes s.left s.left_now got → xs ++ others ≡ records_of j s got
+      → Appends s.taken s.taken_now put → IsOpen j halt xs put → IsCutShort j s halt
+  IsCutShort-opened halt got put xs others read all written opened =
+      let follows : (zs : List Rec) → Begun j halt (records_of j s got ++ zs) put =
+      λ zs. subst (λ l. Begun j halt l put) (sym (append_assoc xs others zs) ∙ ap (λ l. l ++ zs) all) (opened.begun (others ++ zs)) in
       record {
         got = got;
         reads = read;
-        front = breaks.put;
-        writes = breaks.taken;
-        begun = subst (λ l. Begun j halt l breaks.put) (append-nil (records_of j s got)) (follows []);
+        front = put;
+        writes = written;
+        begun = subst (λ l. Begun j halt l put) (append-nil (records_of j s got)) (follows []);
         goes_on = inr follows;
         waits = λ wraps. inr (opened.waits wraps);
       }
 
-  pub Ran-some : (halt : Halt) (r : Reading) → r ≡ start v → ReadsSome stands w r halt s.left s.left_now s.taken s.taken_now → Ran j s (Err (halted halt))
-  Ran-some halt r begins some =
-      Ran-halted j s halt
-      (IsCutShort-opened halt some.got (given (start v) some.got) (last v some.got s.ended) some.reads (records-given some.got)
-      (Breaks-from stands w (given r some.got) (given (start v) some.got) halt s.taken s.taken_now (ap (λ (q : Reading). given q some.got) begins) some.breaks))
+  -- and it was given up then
+  module _ (broken : Job N → W → Halt → List Rec → List ℕ → Type 0) (u : W)
+      (stood : (j : Job N) (xs : List Rec) (front : List ℕ) → stands j u xs front → IsOpen j NoMemory xs front)
+      (broke : (j : Job N) (halt : Halt) (xs : List Rec) (front : List ℕ) → broken j u halt xs front → IsOpen j halt xs front) where
+    IsCutShort-halts : (halt : Halt) (got : List ℕ) (xs others : List Rec) → Consumes s.left s.left_now got → xs ++ others ≡ records_of j s got
+        → Halts stands broken w xs halt u s.taken s.taken_now → IsCutShort j s halt
+    IsCutShort-halts halt got xs others read all halts =
+        IsCutShort-opened halt got halts.put xs others read all halts.taken
+        (IsOpen-halts stands broken u stood broke w xs halt s.taken s.taken_now halts j [] [] at)
+
+    pub Ran-some : (halt : Halt) (r : Reading) → r ≡ start v → ReadsSome stands broken w r halt u s.left s.left_now s.taken s.taken_now → Ran j s (Err (halted halt))
+    Ran-some halt r begins some =
+        Ran-halted j s halt
+        (IsCutShort-halts halt some.got (given (start v) some.got) (last v some.got s.ended) some.reads (records-given some.got)
+        (Halts-from stands broken w u (given r some.got) (given (start v) some.got) halt s.taken s.taken_now (ap (λ (q : Reading). given q some.got) begins) some.halts))
 
   module _ (u : W) (r q : Reading) (begins : r ≡ start v) (stop : Stop) (mid : Option (List ℕ)) (so_far : Reads stands w r u q s.left s.left_now s.taken mid)
       (stops : StopsAt stop q.fault s.ended s.left_now) where
@@ -140,11 +146,15 @@ module _ {N W : Type 0} (stands : Job N → W → List Rec → List ℕ → Type
         ∙ records-given so_far.got
 
     -- it broke off at the last line
-    pub Ran-last : (halt : Halt) → Breaks stands u (last_of stop q.line) halt mid s.taken_now → Ran j s (Err (halted halt))
-    Ran-last halt breaks =
+    pub Ran-last : (broken : Job N → W → Halt → List Rec → List ℕ → Type 0) (x : W)
+        → ((j : Job N) (xs : List Rec) (front : List ℕ) → stands j x xs front → IsOpen j NoMemory xs front)
+        → ((j : Job N) (halt : Halt) (xs : List Rec) (front : List ℕ) → broken j x halt xs front → IsOpen j halt xs front)
+        → (halt : Halt) → Halts stands broken u (last_of stop q.line) halt x mid s.taken_now → Ran j s (Err (halted halt))
+    Ran-last broken x stood broke halt halts =
         Ran-halted j s halt
-        (IsCutShort-opened halt so_far.got (given r so_far.got ++ last_of stop q.line) [] so_far.reads (append-nil (given r so_far.got ++ last_of stop q.line) ∙ all-given)
-        (Breaks-after stands w u (given r so_far.got) (last_of stop q.line) halt s.taken mid s.taken_now so_far.goes breaks))
+        (IsCutShort-halts broken x stood broke halt so_far.got (given r so_far.got ++ last_of stop q.line) [] so_far.reads
+        (append-nil (given r so_far.got ++ last_of stop q.line) ∙ all-given)
+        (Halts-after stands broken w u x (given r so_far.got) (last_of stop q.line) halt s.taken mid s.taken_now so_far.goes halts))
 
     module _ (x : W) (behind : Option (List ℕ)) (goes : Goes stands u (last_of stop q.line) x mid behind) (counts : s.faults_now ≡ stop_count s.faults stop) where
       whole : Goes stands w (records_of j s so_far.got) x s.taken behind

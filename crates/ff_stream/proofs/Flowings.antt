@@ -1,6 +1,6 @@
 -- How a node works as the records come.
-use Rattle.std.proofs.Common.{◌≡◌, ℕ, Bool, true, false, List, [], ◌∷◌, ◌++◌, refl, sym, ap, ◌∙◌, append_assoc, append-nil, inr, subst}
-use Rattle.std.specs.Prelude.{Option, Result, Ok, Err}
+use Rattle.std.proofs.Common.{◌≡◌, ℕ, Bool, true, false, List, [], ◌∷◌, ◌++◌, refl, sym, ap, ◌∙◌, append_assoc, append-nil, inr}
+use Rattle.std.specs.Prelude.{Option, Ok, Err}
 use Rattle.std.specs.Io.KnownBytes.{Appends}
 use Rattle.std.proofs.KnownBytes.{Appends-nil}
 use Rattle.ff_rec.specs.Counts.{counted}
@@ -14,18 +14,19 @@ use Rattle.ff_node.proofs.SendsLaws.{count_more-zero}
 use Rattle.ff_net.specs.Forms.{has_wrap}
 use Rattle.ff_net.specs.Kept.{AreKept}
 use Rattle.ff_net.specs.Meaning.{mean_rejected}
-use Rattle.ff_stream.specs.Endings.{Begun, IsReported, halted}
+use Rattle.ff_stream.specs.Endings.{halted}
 use Rattle.ff_stream.specs.FlowLaws.{Answers-node, Begun-beginning, IsBeginning-node, no-wrap}
 use Rattle.ff_stream.specs.Flows.{Flows, IsOpened, due, told, told_of}
 use Rattle.ff_stream.specs.Jobs.{Job}
 use Rattle.ff_stream.specs.Nodes.{IsNodeOf}
 use Rattle.ff_stream.specs.Texts.{Writes, WritesSome}
-use Rattle.ff_stream.specs.Works.{Breaks, Drops, Finishes, Goes, HasBroken, HasEnded, IsOpen}
+use Rattle.ff_stream.specs.Works.{Drops, Finishes, Goes, Halts, HasBroken, HasEnded, IsOpen}
 use Rattle.ff_stream.specs.declared.ending.Report.{Report}
 use Rattle.ff_stream.specs.declared.fault.Halt.{Halt}
 use Rattle.ff_stream.specs.declared.fault.Halt.TheVariants.{Write, NoMemory}
 use Rattle.ff_stream.specs.declared.flow.Flow.{Flow}
 use Rattle.ff_stream.proofs.Gathering.{due-ended, told-ended}
+use Rattle.ff_stream.proofs.Goings.{Halts-broken}
 
 -- the records that are kept of those that a node rejects
 pub AreKept-kept_of : (keep : Bool) (rejected other kept : List Rec) → Same rejected other → kept ≡ kept_of keep other → AreKept keep rejected kept
@@ -70,19 +71,29 @@ module _ {N S : Type 0} (b : Behaviour S) where
     };
   }
 
-  -- some records were taken, and a write broke off
-  Breaks-due : (w : Flow S) (rs : List Rec) (halt : Halt) (put : List ℕ) (back : List Rec → List ℕ) (t u : Option (List ℕ)) → Appends t u put
-      → ((zs : List Rec) → due b w (rs ++ zs) ≡ put ++ back zs) → Breaks {N = N} flows w rs halt t u
-  Breaks-due w rs halt put back t u written sends = record {
-    put = put;
-    taken = written;
-    opens = λ j xs front at. record {
-      begun = λ zs. Begun-beginning j halt ((xs ++ rs) ++ zs) (front ++ put)
-          (IsBeginning-node j b at.worker at.stands ((xs ++ rs) ++ zs) (front ++ put) (back zs)
-          (ap (λ l. text (node b at.worker l)) (append_assoc xs rs zs) ∙ at.sends (rs ++ zs) ∙ ap (λ l. front ++ l) (sends zs) ∙ sym (append_assoc front put (back zs))));
-      waits = λ wraps. no-wrap (has_wrap j.net) at.stands.no_wrap wraps;
-    };
+  abbrev broken : Job N → Flow S → Halt → List Rec → List ℕ → Type 0
+  broken = λ j w halt xs front. IsOpen j halt xs front
+
+  -- what was written begins an answer whatever follows
+  pub IsOpen-flows : (j : Job N) (w : Flow S) (xs : List Rec) (front : List ℕ) → Flows b j w xs front → IsOpen j NoMemory xs front
+  IsOpen-flows j w xs front at = record {
+    begun = λ zs. inr (IsBeginning-node j b at.worker at.stands (xs ++ zs) front (due b w zs) (at.sends zs));
+    waits = λ wraps. no-wrap (has_wrap j.net) at.stands.no_wrap wraps;
   }
+
+  -- some records were taken, and it broke off
+  Halts-due : (w v : Flow S) (rs : List Rec) (halt : Halt) (put : List ℕ) (back : List Rec → List ℕ) (t u : Option (List ℕ)) → Appends t u put
+      → ((zs : List Rec) → due b w (rs ++ zs) ≡ put ++ back zs) → Halts {N = N} flows broken w rs halt v t u
+  Halts-due w v rs halt put back t u written sends = Halts-broken flows broken w v rs halt put t u written (λ j xs front at. record {
+    begun = λ zs. Begun-beginning j halt ((xs ++ rs) ++ zs) (front ++ put)
+        (IsBeginning-node j b at.worker at.stands ((xs ++ rs) ++ zs) (front ++ put) (back zs)
+        (ap (λ l. text (node b at.worker l)) (append_assoc xs rs zs) ∙ at.sends (rs ++ zs) ∙ ap (λ l. front ++ l) (sends zs) ∙ sym (append_assoc front put (back zs))));
+    waits = λ wraps. no-wrap (has_wrap j.net) at.stands.no_wrap wraps;
+  })
+
+  -- memory ran out within a record
+  pub Halts-starved : (w v : Flow S) (r : Rec) (t : Option (List ℕ)) → Halts {N = N} flows broken w (r ∷ []) NoMemory v t t
+  Halts-starved w v r t = Halts-due w v (r ∷ []) NoMemory [] (λ zs. due b w (r ∷ zs)) t t (Appends-nil t) (λ zs. refl)
 
   -- a record was taken, and what is held was written as far as it was time to
   pub Goes-handed : (w v u : Flow S) (r : Rec) (t t' : Option (List ℕ)) → ((zs : List Rec) → due b w (r ∷ zs) ≡ due b v zs) → ((zs : List Rec) → told b w (r ∷ zs) ≡ told b v zs)
@@ -92,11 +103,11 @@ module _ {N S : Type 0} (b : Behaviour S) where
       (λ zs. sends zs ∙ due-split b v u writes.put writes.splits node_is ended_is sends_is zs)
       (λ zs. rejects zs ∙ told-split b v u node_is ended_is sends_is zs)
 
-  pub Breaks-handed : (w v : Flow S) (r : Rec) (halt : Halt) (t t' : Option (List ℕ)) → ((zs : List Rec) → due b w (r ∷ zs) ≡ due b v zs)
-      → WritesSome v.text t t' → Breaks {N = N} flows w (r ∷ []) halt t t'
-  Breaks-handed w v r halt t t' sends writes =
+  pub Halts-handed : (w v u : Flow S) (r : Rec) (halt : Halt) (t t' : Option (List ℕ)) → ((zs : List Rec) → due b w (r ∷ zs) ≡ due b v zs)
+      → WritesSome v.text t t' → Halts {N = N} flows broken w (r ∷ []) halt u t t'
+  Halts-handed w v u r halt t t' sends writes =
       let rest : List Rec → List ℕ = λ zs. text (in_all b v.ended v.node v.sends zs).sends in
-      Breaks-due w (r ∷ []) halt writes.put (λ zs. writes.back ++ rest zs) t t' writes.taken
+      Halts-due w u (r ∷ []) halt writes.put (λ zs. writes.back ++ rest zs) t t' writes.taken
       (λ zs. sends zs ∙ ap (λ l. l ++ rest zs) writes.splits ∙ append_assoc writes.put writes.back (rest zs))
 
   -- what is held was written
@@ -104,10 +115,10 @@ module _ {N S : Type 0} (b : Behaviour S) where
   Goes-paused w v t t' writes node_is ended_is sends_is =
       Goes-due w v [] writes.put t t' writes.taken (due-split b w v writes.put writes.splits node_is ended_is sends_is) (told-split b w v node_is ended_is sends_is)
 
-  pub Breaks-paused : (w : Flow S) (halt : Halt) (t t' : Option (List ℕ)) → WritesSome w.text t t' → Breaks {N = N} flows w [] halt t t'
-  Breaks-paused w halt t t' writes =
+  pub Halts-paused : (w v : Flow S) (halt : Halt) (t t' : Option (List ℕ)) → WritesSome w.text t t' → Halts {N = N} flows broken w [] halt v t t'
+  Halts-paused w v halt t t' writes =
       let rest : List Rec → List ℕ = λ zs. text (in_all b w.ended w.node w.sends zs).sends in
-      Breaks-due w [] halt writes.put (λ zs. writes.back ++ rest zs) t t' writes.taken
+      Halts-due w v [] halt writes.put (λ zs. writes.back ++ rest zs) t t' writes.taken
       (λ zs. ap (λ l. l ++ rest zs) writes.splits ∙ append_assoc writes.put writes.back (rest zs))
 
   -- a node that ended drops what comes

@@ -1,6 +1,6 @@
 -- How far a source was read, and what came of it.
 use Rattle.std.proofs.Common.{◌≡◌, ℕ, ◌+◌, ◌≤◌, List, [], ◌∷◌, ◌++◌, length, append_assoc, refl, sym, ap, ◌∙◌, append-nil, subst, take, drop, take-append-drop, None, Some, arith}
-use Rattle.std.specs.Prelude.{Option, option_map}
+use Rattle.std.specs.Prelude.{Option}
 use Rattle.std.specs.Io.KnownBytes.{Consumes, Keeps}
 use Rattle.std.proofs.KnownBytes.{Consumes-nil, Consumes-trans, Consumes-kept}
 use Rattle.ff_rec.specs.declared.fault.FeedFault.{FeedFault}
@@ -11,9 +11,9 @@ use Rattle.ff_rec.specs.Reading.{Reading, next, gives, after, given}
 use Rattle.ff_rec.specs.ReadingLaws.{after-append, given-append}
 use Rattle.ff_stream.specs.Jobs.{Job}
 use Rattle.ff_stream.specs.Reads.{HasTaken, Reads, ReadsSome, Hands}
-use Rattle.ff_stream.specs.Works.{Goes, Breaks}
+use Rattle.ff_stream.specs.Works.{Goes, Halts}
 use Rattle.ff_stream.specs.declared.fault.Halt.{Halt}
-use Rattle.ff_stream.proofs.Goings.{Goes-refl, Goes-trans, Goes-from, Breaks-after, Breaks-from, Breaks-more}
+use Rattle.ff_stream.proofs.Goings.{Goes-refl, Goes-trans, Goes-from, Halts-after, Halts-from, Halts-more}
 
 -- the records of two stretches of bytes
 given-two : (r s : Reading) (got piece : List ℕ) → s ≡ after r got → given r got ++ given s piece ≡ given r (got ++ piece)
@@ -101,16 +101,6 @@ module _ {N W : Type 0} (stands : Job N → W → List Rec → List ℕ → Type
         (Goes-trans stands w v u (given r so_far.got) (given s piece) t t' t'' so_far.goes goes);
   }
 
-  -- a piece at which it broke off
-  pub ReadsSome-piece : (w v : W) (r s : Reading) (halt : Halt) (l m n t t' t'' : Option (List ℕ)) (piece : List ℕ) → Reads stands w r v s l m t t' → Consumes m n piece
-      → Breaks stands v (given s piece) halt t' t'' → ReadsSome stands w r halt l n t t''
-  ReadsSome-piece w v r s halt l m n t t' t'' piece so_far read breaks = record {
-    got = so_far.got ++ piece;
-    reads = Consumes-trans l m n so_far.got piece so_far.reads read;
-    breaks = Breaks-from stands w (given r so_far.got ++ given s piece) (given r (so_far.got ++ piece)) halt t t'' (given-two r s so_far.got piece so_far.reader)
-        (Breaks-after stands w v (given r so_far.got) (given s piece) halt t t' t'' so_far.goes breaks);
-  }
-
   -- a pause behind it
   pub Reads-paused : (w v u : W) (r s : Reading) (l m t t' t'' : Option (List ℕ)) → Reads stands w r v s l m t t' → Goes stands v [] u t' t'' → Reads stands w r u s l m t t''
   Reads-paused w v u r s l m t t' t'' so_far goes = record {
@@ -119,16 +109,6 @@ module _ {N W : Type 0} (stands : Job N → W → List Rec → List ℕ → Type
     reader = so_far.reader;
     goes = Goes-from stands w u (given r so_far.got ++ []) (given r so_far.got) t t'' (append-nil (given r so_far.got))
         (Goes-trans stands w v u (given r so_far.got) [] t t' t'' so_far.goes goes);
-  }
-
-  -- one at which it broke off
-  pub ReadsSome-paused : (w v : W) (r s : Reading) (halt : Halt) (l m t t' t'' : Option (List ℕ)) → Reads stands w r v s l m t t' → Breaks stands v [] halt t' t''
-      → ReadsSome stands w r halt l m t t''
-  ReadsSome-paused w v r s halt l m t t' t'' so_far breaks = record {
-    got = so_far.got;
-    reads = so_far.reads;
-    breaks = Breaks-from stands w (given r so_far.got ++ []) (given r so_far.got) halt t t'' (append-nil (given r so_far.got))
-        (Breaks-after stands w v (given r so_far.got) [] halt t t' t'' so_far.goes breaks);
   }
 
   -- all of a piece was read, and of what stands behind it no byte counts
@@ -146,14 +126,6 @@ module _ {N W : Type 0} (stands : Job N → W → List Rec → List ℕ → Type
       ap (given r) so_far.reads ∙ given-append r so_far.got rest ∙ ap (λ (q : Reading). given r so_far.got ++ given q rest) (sym so_far.reader)
       ∙ ap (λ (l : List Rec). given r so_far.got ++ l) (given-stays s f rest stopped) ∙ append-nil (given r so_far.got) in
       Goes-from stands w v (given r so_far.got) (given r piece) t u (sym whole) so_far.goes
-
-  -- what broke off within a piece
-  pub Breaks-part : (w : W) (r : Reading) (halt : Halt) (piece rest : List ℕ) (t u : Option (List ℕ)) → ReadsSome stands w r halt (Some piece) (Some rest) t u
-      → Breaks stands w (given r piece) halt t u
-  Breaks-part w r halt piece rest t u so_far =
-      Breaks-from stands w (given r so_far.got ++ given (after r so_far.got) rest) (given r piece) halt t u
-      (sym (ap (given r) so_far.reads ∙ given-append r so_far.got rest))
-      (Breaks-more stands w (given r so_far.got) (given (after r so_far.got) rest) halt t u so_far.breaks)
 
   -- none of these records was taken yet
   pub Hands-none : (w : W) (rs : List Rec) (t : Option (List ℕ)) → Hands stands w rs w rs t t
@@ -173,10 +145,39 @@ module _ {N W : Type 0} (stands : Job N → W → List Rec → List ℕ → Type
   Goes-hands w v rs rest t u so_far empty =
       Goes-from stands w v so_far.first rs t u (sym (so_far.splits ∙ ap (λ l. so_far.first ++ l) empty ∙ append-nil so_far.first)) so_far.goes
 
-  -- it broke off at the next
-  pub Breaks-hands : (w v : W) (rs rest others : List Rec) (x : Rec) (halt : Halt) (t t' t'' : Option (List ℕ)) → Hands stands w rs v rest t t' → rest ≡ x ∷ others
-      → Breaks stands v (x ∷ []) halt t' t'' → Breaks stands w rs halt t t''
-  Breaks-hands w v rs rest others x halt t t' t'' so_far is breaks =
-      Breaks-from stands w ((so_far.first ++ x ∷ []) ++ others) rs halt t t''
+module _ {N W : Type 0} (stands : Job N → W → List Rec → List ℕ → Type 0) (halted : Job N → W → Halt → List Rec → List ℕ → Type 0) where
+  -- a piece at which it came to a halt
+  pub ReadsSome-piece : (w v u : W) (r s : Reading) (halt : Halt) (l m n t t' t'' : Option (List ℕ)) (piece : List ℕ) → Reads stands w r v s l m t t' → Consumes m n piece
+      → Halts stands halted v (given s piece) halt u t' t'' → ReadsSome stands halted w r halt u l n t t''
+  ReadsSome-piece w v u r s halt l m n t t' t'' piece so_far read halts = record {
+    got = so_far.got ++ piece;
+    reads = Consumes-trans l m n so_far.got piece so_far.reads read;
+    halts = Halts-from stands halted w u (given r so_far.got ++ given s piece) (given r (so_far.got ++ piece)) halt t t'' (given-two r s so_far.got piece so_far.reader)
+        (Halts-after stands halted w v u (given r so_far.got) (given s piece) halt t t' t'' so_far.goes halts);
+  }
+
+  -- a pause at which it did
+  pub ReadsSome-paused : (w v u : W) (r s : Reading) (halt : Halt) (l m t t' t'' : Option (List ℕ)) → Reads stands w r v s l m t t' → Halts stands halted v [] halt u t' t''
+      → ReadsSome stands halted w r halt u l m t t''
+  ReadsSome-paused w v u r s halt l m t t' t'' so_far halts = record {
+    got = so_far.got;
+    reads = so_far.reads;
+    halts = Halts-from stands halted w u (given r so_far.got ++ []) (given r so_far.got) halt t t'' (append-nil (given r so_far.got))
+        (Halts-after stands halted w v u (given r so_far.got) [] halt t t' t'' so_far.goes halts);
+  }
+
+  -- what came to a halt within a piece
+  pub Halts-part : (w v : W) (r : Reading) (halt : Halt) (piece rest : List ℕ) (t u : Option (List ℕ)) → ReadsSome stands halted w r halt v (Some piece) (Some rest) t u
+      → Halts stands halted w (given r piece) halt v t u
+  Halts-part w v r halt piece rest t u so_far =
+      Halts-from stands halted w v (given r so_far.got ++ given (after r so_far.got) rest) (given r piece) halt t u
+      (sym (ap (given r) so_far.reads ∙ given-append r so_far.got rest))
+      (Halts-more stands halted w v (given r so_far.got) (given (after r so_far.got) rest) halt t u so_far.halts)
+
+  -- it came to a halt at the next of these records
+  pub Halts-hands : (w v u : W) (rs rest others : List Rec) (x : Rec) (halt : Halt) (t t' t'' : Option (List ℕ)) → Hands stands w rs v rest t t' → rest ≡ x ∷ others
+      → Halts stands halted v (x ∷ []) halt u t' t'' → Halts stands halted w rs halt u t t''
+  Halts-hands w v u rs rest others x halt t t' t'' so_far is halts =
+      Halts-from stands halted w u ((so_far.first ++ x ∷ []) ++ others) rs halt t t''
       (append_assoc so_far.first (x ∷ []) others ∙ ap (λ l. so_far.first ++ l) (sym is) ∙ sym so_far.splits)
-      (Breaks-more stands w (so_far.first ++ x ∷ []) others halt t t'' (Breaks-after stands w v so_far.first (x ∷ []) halt t t' t'' so_far.goes breaks))
+      (Halts-more stands halted w u (so_far.first ++ x ∷ []) others halt t t'' (Halts-after stands halted w v u so_far.first (x ∷ []) halt t t' t'' so_far.goes halts))

@@ -1,20 +1,16 @@
 -- What a node that works as the records come has written begins an answer.
-use Rattle.std.specs.Prelude.{◌≡◌, ℕ, Bool, true, false, List, ◌++◌, ◌⊎◌}
-use Rattle.std.proofs.Common.{sym, ◌∙◌, inl, inr}
+use Rattle.std.specs.Prelude.{◌≡◌, ℕ, Bool, true, false, List, ◌++◌}
+use Rattle.std.proofs.Common.{sym, ◌∙◌, inr}
 use Rattle.ff_rec.specs.Lines.{Rec, text}
-use Rattle.ff_rec.specs.Weights.{Same}
 use Rattle.ff_rec.proofs.WeightLaws.{Same-≡}
 use Rattle.ff_node.specs.Behaviour.{Behaviour, node}
-use Rattle.ff_net.specs.Forms.{has_wrap, is_ordered}
+use Rattle.ff_net.specs.Forms.{is_ordered}
 use Rattle.ff_net.specs.Meaning.{mean, Fine, SameInOrder, Answers}
 use Rattle.ff_stream.specs.Endings.{Begun, IsBeginning}
-use Rattle.ff_stream.specs.Flows.{Flows, due}
 use Rattle.ff_stream.specs.Jobs.{Job}
 use Rattle.ff_stream.specs.Nodes.{IsNodeOf}
-use Rattle.ff_stream.specs.Works.{IsOpen}
 use Rattle.ff_stream.specs.declared.fault.Halt.{Halt}
 use Rattle.ff_stream.specs.declared.fault.Halt.TheVariants.{Write, NoMemory}
-use Rattle.ff_stream.specs.declared.flow.Flow.{Flow}
 
 -- equal lists are the same in any order
 SameInOrder-≡ : (ordered : Bool) (xs ys : List Rec) → ys ≡ xs → SameInOrder ordered xs ys
@@ -44,9 +40,3 @@ Begun-beginning j NoMemory xs front begins = inr begins
 -- no wrap stands in the network
 pub no-wrap : {A : Type 0} (wraps : Bool) → wraps ≡ false → wraps ≡ true → A
 no-wrap wraps without with = absurd (let both : false ≡ true = sym without ∙ with in cc)
-
-pub IsOpen-flows : {N S : Type 0} (b : Behaviour S) (j : Job N) (w : Flow S) (xs : List Rec) (front : List ℕ) → Flows b j w xs front → IsOpen j NoMemory xs front
-IsOpen-flows b j w xs front flows = record {
-  begun = λ zs. inr (IsBeginning-node j b flows.worker flows.stands (xs ++ zs) front (due b w zs) (flows.sends zs));
-  waits = λ wraps. no-wrap (has_wrap j.net) flows.stands.no_wrap wraps;
-}

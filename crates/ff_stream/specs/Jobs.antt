@@ -1,5 +1,5 @@
 -- What is run.
-use Rattle.std.specs.Prelude.{ℕ, Bool, List}
+use Rattle.std.specs.Prelude.{ℕ, Bool}
 use Rattle.ff_node.specs.Behaviour.{Behaviour}
 use Rattle.ff_net.specs.Tree.{Tree}
 use Rattle.ff_net.specs.declared.net.Version.{Version}

@@ -1,5 +1,5 @@
 -- How a source was read, and what came of it.
-use Rattle.std.specs.Prelude.{◌≡◌, ℕ, ◌+◌, ◌≤◌, Bool, true, false, if◌then◌else◌, List, [], ◌++◌, length, Option, None, Some, option_map}
+use Rattle.std.specs.Prelude.{◌≡◌, ℕ, ◌+◌, ◌≤◌, Bool, true, false, List, [], ◌++◌, length, Option, None, Some, option_map}
 use Rattle.std.specs.Io.KnownBytes.{Consumes, IsAtEnd}
 use Rattle.ff_rec.specs.declared.fault.FeedFault.{FeedFault}
 use Rattle.ff_rec.specs.declared.fault.FeedFault.TheVariants.{Line as Passed}
@@ -7,7 +7,7 @@ use Rattle.ff_rec.specs.declared.fault.LineFault.{LineFault}
 use Rattle.ff_rec.specs.Lines.{Rec}
 use Rattle.ff_rec.specs.Reading.{Reading, after, given, last_given}
 use Rattle.ff_stream.specs.Jobs.{Job}
-use Rattle.ff_stream.specs.Works.{Goes, Breaks}
+use Rattle.ff_stream.specs.Works.{Goes, Halts}
 use Rattle.ff_stream.specs.declared.ending.Stop.{Stop}
 use Rattle.ff_stream.specs.declared.ending.Stop.TheVariants.{End, Read, Line}
 use Rattle.ff_stream.specs.declared.fault.Halt.{Halt}
@@ -39,12 +39,12 @@ pub record Reads {N W : Type 0} (stands : Job N → W → List Rec → List ℕ 
   pub reader : s ≡ after r got
   pub goes : Goes stands w (given r got) v before now
 
--- some bytes were read, and the work broke off
-pub record ReadsSome {N W : Type 0} (stands : Job N → W → List Rec → List ℕ → Type 0) (w : W) (r : Reading) (halt : Halt)
-    (left_before left_now before now : Option (List ℕ)) : Type 0 where
+-- some bytes were read, and the work came to a halt
+pub record ReadsSome {N W : Type 0} (stands : Job N → W → List Rec → List ℕ → Type 0) (halted : Job N → W → Halt → List Rec → List ℕ → Type 0)
+    (w : W) (r : Reading) (halt : Halt) (v : W) (left_before left_now before now : Option (List ℕ)) : Type 0 where
   pub got : List ℕ
   pub reads : Consumes left_before left_now got
-  pub breaks : Breaks stands w (given r got) halt before now
+  pub halts : Halts stands halted w (given r got) halt v before now
 
 -- the work took the first of these records, and the others are left
 pub record Hands {N W : Type 0} (stands : Job N → W → List Rec → List ℕ → Type 0) (w : W) (rs : List Rec) (v : W) (rest : List Rec)

@@ -1,6 +1,6 @@
 -- How work goes on. `stands j w xs front` says that in the job `j` the work `w` took the records `xs` since it began, and
--- that the bytes `front` were written.
-use Rattle.std.specs.Prelude.{◌≡◌, ℕ, Bool, true, List, [], ◌++◌, Option, Result, Ok, Err}
+-- that the bytes `front` were written; `halted j w halt xs front` that it broke off behind these records and bytes.
+use Rattle.std.specs.Prelude.{◌≡◌, ℕ, true, List, [], ◌++◌, ◌⊎◌, Option, Result, Ok, Err}
 use Rattle.std.specs.Io.KnownBytes.{Appends, Keeps}
 use Rattle.ff_rec.specs.Counts.{more}
 use Rattle.ff_rec.specs.Lines.{Rec, text}
@@ -32,12 +32,20 @@ pub record IsOpen {N : Type 0} (j : Job N) (halt : Halt) (xs : List Rec) (front 
   pub begun : (zs : List Rec) → Begun j halt (xs ++ zs) front
   pub waits : has_wrap j.net ≡ true → (front ≡ []) × (halt ≡ NoMemory)
 
--- the work broke off while it took these records, and some bytes were written
-pub record Breaks {N W : Type 0} (stands : Job N → W → List Rec → List ℕ → Type 0) (w : W) (rs : List Rec) (halt : Halt)
-    (before now : Option (List ℕ)) : Type 0 where
+-- what is left of work at a halt: where memory ran out it may stand as it did, and else it broke off
+abbrev pub Left : {N W : Type 0} → (Job N → W → List Rec → List ℕ → Type 0) → (Job N → W → Halt → List Rec → List ℕ → Type 0)
+    → Job N → W → Halt → List Rec → List ℕ → Type 0
+Left stands halted j v halt xs front = ((halt ≡ NoMemory) × stands j v xs front) ⊎ halted j v halt xs front
+
+-- the work came to a halt while it was to take these records: it took the first of them, and some bytes were written
+pub record Halts {N W : Type 0} (stands : Job N → W → List Rec → List ℕ → Type 0) (halted : Job N → W → Halt → List Rec → List ℕ → Type 0)
+    (w : W) (rs : List Rec) (halt : Halt) (v : W) (before now : Option (List ℕ)) : Type 0 where
   pub put : List ℕ
   pub taken : Appends before now put
-  pub opens : (j : Job N) (xs : List Rec) (front : List ℕ) → stands j w xs front → IsOpen j halt (xs ++ rs) (front ++ put)
+  pub first : List Rec
+  pub rest : List Rec
+  pub splits : rs ≡ first ++ rest
+  pub leaves : (j : Job N) (xs : List Rec) (front : List ℕ) → stands j w xs front → Left stands halted j v halt (xs ++ first) (front ++ put)
 
 -- whatever records the work takes, they change nothing
 abbrev pub Drops : {N W : Type 0} → (Job N → W → List Rec → List ℕ → Type 0) → W → Type 0

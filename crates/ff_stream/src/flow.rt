@@ -21,9 +21,11 @@ pub(crate) struct Flow<M> {
 
 impl<N: Node, M: Node> Work<N> for Flow<M> {
     ghost use Rattle.ff_stream.specs.Flows.{Flows};
-    ghost use Rattle.ff_stream.specs.FlowLaws.{IsOpen-flows};
+    ghost use Rattle.ff_stream.specs.Works.{IsOpen};
 
     ghost stands = { λ j w xs front. Flows M.does j w xs front };
+
+    ghost halted = { λ j _ halt xs front. IsOpen j halt xs front };
 
     fn take<O: Sink>(&mut self, r: Record, sink: &mut O) -> Result<(), Halt> {
         hand(self, r)?;
@@ -44,5 +46,5 @@ impl<N: Node, M: Node> Work<N> for Flow<M> {
         Ok(report_of(&mut self.sends))
     }
 
-    ghost opens = { λ j w xs front h. IsOpen-flows M.does j w xs front h };
+    fn give_up(self) {}
 }

@@ -2,7 +2,7 @@
 ghost use Rattle.std.specs.Prelude.{◌≡◌, ◌<◌, [], None, length, IfOk, IfErr, OnOk};
 ghost use Rattle.ff_stream.specs.Intakes.{source_count};
 ghost use Rattle.ff_stream.specs.Reads.{Reads, ReadsSome, StopsAt, last_of};
-ghost use Rattle.ff_stream.specs.Works.{Goes, Breaks, halt_count};
+ghost use Rattle.ff_stream.specs.Works.{Goes, Halts, halt_count};
 
 use crate::piece::{hand_all, take_piece};
 use crate::{Halt, Stop, Work};
@@ -27,7 +27,7 @@ pub(crate) fn take_all<N: Node, W: Work<N>, I: Source, O: Sink>(
         (I.left source.old) (I.left source.new) (O.taken sink.old) (O.taken sink.new)) }
     ensures stop { IfOk result (λ stop. StopsAt stop reader.new.fault
         (I.ended source.new) (I.left source.new)) }
-    ensures err { IfErr result (λ halt. ReadsSome W.stands work.old reader.old halt
+    ensures err { IfErr result (λ halt. ReadsSome W.stands W.halted work.old reader.old halt work.new
         (I.left source.old) (I.left source.new) (O.taken sink.old) (O.taken sink.new)) }
     ensures input_faults { I.faults source.new ≡ source_count (I.faults source.old) result }
     ensures output_faults { O.faults sink.new ≡ halt_count (O.faults sink.old) result }
@@ -62,8 +62,8 @@ pub(crate) fn take_last<N: Node, W: Work<N>, O: Sink>(
     requires { stop ≡ Stop.End → reader.fault ≡ None }
     ensures ok { OnOk result (Goes W.stands work.old (last_of stop reader.line) work.new
         (O.taken sink.old) (O.taken sink.new)) }
-    ensures err { IfErr result (λ halt. Breaks W.stands work.old (last_of stop reader.line) halt
-        (O.taken sink.old) (O.taken sink.new)) }
+    ensures err { IfErr result (λ halt. Halts W.stands W.halted work.old
+        (last_of stop reader.line) halt work.new (O.taken sink.old) (O.taken sink.new)) }
     ensures counts { O.faults sink.new ≡ halt_count (O.faults sink.old) result }
 {
     let Stop::End = stop else {

@@ -2,7 +2,7 @@
 ghost use Rattle.std.specs.Prelude.{◌≡◌, ◌<◌, [], None, length, IfOk, IfErr, OnOk};
 ghost use Rattle.ff_rec.specs.Reading.{given};
 ghost use Rattle.ff_stream.specs.Reads.{HasTaken};
-ghost use Rattle.ff_stream.specs.Works.{Goes, Breaks, halt_count};
+ghost use Rattle.ff_stream.specs.Works.{Goes, Halts, halt_count};
 
 use crate::{Halt, Work};
 use ff_io::Sink;
@@ -29,8 +29,8 @@ pub(crate) fn take_piece<N: Node, W: Work<N>, O: Sink>(
     ensures ok { OnOk result (Goes W.stands work.old (given reader.old piece.now) work.new
         (O.taken sink.old) (O.taken sink.new)) }
     ensures used { OnOk result (queue.new.items ≡ []) }
-    ensures err { IfErr result (λ halt. Breaks W.stands work.old (given reader.old piece.now) halt
-        (O.taken sink.old) (O.taken sink.new)) }
+    ensures err { IfErr result (λ halt. Halts W.stands W.halted work.old
+        (given reader.old piece.now) halt work.new (O.taken sink.old) (O.taken sink.new)) }
     ensures read { IfOk result (λ fault. HasTaken reader.old reader.new piece.now fault) }
     ensures limit { reader.new.input_limit ≡ reader.old.input_limit }
     ensures counts { O.faults sink.new ≡ halt_count (O.faults sink.old) result }
@@ -62,8 +62,8 @@ fn take_part<N: Node, W: Work<N>, O: Sink>(
     ensures ok { OnOk result (Goes W.stands work.old (given reader.old part.now) work.new
         (O.taken sink.old) (O.taken sink.new)) }
     ensures used { OnOk result (queue.new.items ≡ []) }
-    ensures err { IfErr result (λ halt. Breaks W.stands work.old (given reader.old part.now) halt
-        (O.taken sink.old) (O.taken sink.new)) }
+    ensures err { IfErr result (λ halt. Halts W.stands W.halted work.old
+        (given reader.old part.now) halt work.new (O.taken sink.old) (O.taken sink.new)) }
     ensures read { IfOk result (λ fault. HasTaken reader.old reader.new part.now fault) }
     ensures limit { reader.new.input_limit ≡ reader.old.input_limit }
     ensures counts { O.faults sink.new ≡ halt_count (O.faults sink.old) result }
@@ -120,7 +120,7 @@ pub(crate) fn hand_all<N: Node, W: Work<N>, O: Sink>(
     ensures ok { OnOk result (Goes W.stands work.old queue.old.items work.new
         (O.taken sink.old) (O.taken sink.new)) }
     ensures used { OnOk result (queue.new.items ≡ []) }
-    ensures err { IfErr result (λ halt. Breaks W.stands work.old queue.old.items halt
+    ensures err { IfErr result (λ halt. Halts W.stands W.halted work.old queue.old.items halt work.new
         (O.taken sink.old) (O.taken sink.new)) }
     ensures counts { O.faults sink.new ≡ halt_count (O.faults sink.old) result }
 {

@@ -1,5 +1,5 @@
 // A run over a source, to a sink.
-ghost use Rattle.std.specs.Prelude.{◌≡◌, ◌<◌, [], length};
+ghost use Rattle.std.specs.Prelude.{◌≡◌, ◌<◌, [], length, IfOk};
 ghost use Rattle.ff_rec.specs.Limits.{ReadingLaw};
 ghost use Rattle.ff_rec.specs.Reading.{opening};
 ghost use Rattle.ff_net.specs.Versions.{line_bytes, input_bytes};
@@ -13,7 +13,7 @@ use crate::{Ending, RunFault, Work};
 use ff_io::{Sink, Source};
 use ff_net::Version;
 use ff_node::Node;
-use ff_rec::{LONGEST_INPUT, LineReader, reading_is_cutting};
+use ff_rec::{LONGEST_INPUT, LineReader, NoMemory, reading_is_cutting};
 use std::alloc::Global;
 
 /// How many bytes a call reads at once.
@@ -34,10 +34,22 @@ pub fn run_work<N: Node, W: Work<N>, I: Source, O: Sink>(
     ensures input_faults { CountsInput (I.faults source.old) (I.faults source.new) result }
     ensures output_faults { O.faults sink.new ≡ output_count (O.faults sink.old) result }
 {
-    let mut room = vec![in alloc; 0u8; PIECE]?;
-    let reader = LineReader::new(alloc, line_limit(version), LONGEST_INPUT)?;
+    let Ok((mut room, reader)) = open_reading(alloc, version) else {
+        work.give_up();
+        return Err(RunFault::NoMemory);
+    };
     reading_is_cutting();
     work_through(alloc, version, &mut room, reader, work, source, sink)
+}
+
+// Room for what a call reads, and a reader that took nothing yet.
+fn open_reading(alloc: Global, version: Version) -> Result<(Vec<u8>, LineReader), NoMemory>
+    ensures room { IfOk result (λ r. 0 < length r.0.items) }
+    ensures reader { IfOk result (λ r. r.1 ≡ opening (line_bytes version) input_bytes) }
+{
+    let room = vec![in alloc; 0u8; PIECE]?;
+    let reader = LineReader::new(alloc, line_limit(version), LONGEST_INPUT)?;
+    Ok((room, reader))
 }
 
 // Has the work done from the first byte on.
@@ -59,8 +71,17 @@ fn work_through<N: Node, W: Work<N>, I: Source, O: Sink>(
     ensures input_faults { CountsInput (I.faults source.old) (I.faults source.new) result }
     ensures output_faults { O.faults sink.new ≡ output_count (O.faults sink.old) result }
 {
-    let stop = take_all(alloc, room, &mut reader, &mut work, source, sink)?;
-    take_last(alloc, reader, stop, &mut work, sink)?;
+    let stop = match take_all(alloc, room, &mut reader, &mut work, source, sink) {
+        Ok(stop) => stop,
+        Err(halt) => {
+            work.give_up();
+            return Err(halt.into());
+        }
+    };
+    if let Err(halt) = take_last(alloc, reader, stop, &mut work, sink) {
+        work.give_up();
+        return Err(halt.into());
+    }
     let report = work.finish(alloc, sink)?;
     Ok(Ending { stop, report })
 }

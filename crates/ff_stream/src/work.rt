@@ -8,31 +8,37 @@ use ff_rec::Record;
 use std::alloc::Global;
 
 /// A way to do the work of a run: it takes the records of a stream one after another as they are read, and writes what is
-/// sent for them then or at the end.
-pub trait Work<N: Node>: Drop {
+/// sent for them then or at the end. Whoever runs it ends it by `finish`, or by `give_up` where that comes too early, so
+/// work may hold what has to be put back, as threads that run.
+pub trait Work<N: Node> {
     ghost use Rattle.std.specs.Prelude.{ℕ, List, IsTrue, IfErr, OnOk, ◌≡◌, [], ◌∷◌};
     ghost use Rattle.ff_rec.specs.Lines.{Rec};
     ghost use Rattle.ff_stream.specs.Endings.{output_count};
     ghost use Rattle.ff_stream.specs.Jobs.{Job};
-    ghost use Rattle.ff_stream.specs.Works.{Goes, Breaks, Drops, Finishes, IsOpen, halt_count};
+    ghost use Rattle.ff_stream.specs.Works.{Goes, Halts, Drops, Finishes, IsOpen, halt_count};
+    ghost use Rattle.ff_stream.specs.declared.fault.Halt.{Halt};
     ghost use Rattle.ff_stream.specs.declared.fault.Halt.TheVariants.{NoMemory};
 
     /// In this job it took these records since it began, and these bytes were written.
     ghost stands: { Job N → Self → List Rec → List ℕ → Type 0 };
 
-    /// Takes a record. After a refusal the work is given up.
+    /// In this job it broke off at this halt, after it took these records, and these bytes were written.
+    ghost halted: { Job N → Self → Halt → List Rec → List ℕ → Type 0 };
+
+    /// Takes a record. After a refusal the work is to be given up.
     fn take<O: Sink>(&mut self, r: Record, sink: &mut O) -> Result<(), Halt>
         ensures ok { OnOk result (Goes stands self.old (r ∷ []) self.new
             (O.taken sink.old) (O.taken sink.new)) }
-        ensures err { IfErr result (λ halt. Breaks stands self.old (r ∷ []) halt
+        ensures err { IfErr result (λ halt. Halts stands halted self.old (r ∷ []) halt self.new
             (O.taken sink.old) (O.taken sink.new)) }
         ensures counts { O.faults sink.new ≡ halt_count (O.faults sink.old) result };
 
-    /// Called where the next records may be long in coming: what is held for the sink is written.
+    /// Called where the next records may be long in coming: what is held for the sink is written. After a refusal the work
+    /// is to be given up.
     fn pause<O: Sink>(&mut self, sink: &mut O) -> Result<(), Halt>
         ensures ok { OnOk result (Goes stands self.old [] self.new
             (O.taken sink.old) (O.taken sink.new)) }
-        ensures err { IfErr result (λ halt. Breaks stands self.old [] halt
+        ensures err { IfErr result (λ halt. Halts stands halted self.old [] halt self.new
             (O.taken sink.old) (O.taken sink.new)) }
         ensures counts { O.faults sink.new ≡ halt_count (O.faults sink.old) result };
 
@@ -45,7 +51,11 @@ pub trait Work<N: Node>: Drop {
         ensures ends { Finishes stands self (O.taken sink.old) (O.taken sink.new) result }
         ensures counts { O.faults sink.new ≡ output_count (O.faults sink.old) result };
 
-    /// What was written so far begins an answer whatever records follow.
-    ghost opens: { (j : Job N) (w : Self) (xs : List Rec) (front : List ℕ) → stands j w xs front
-        → IsOpen j NoMemory xs front };
+    /// Ends the run early: nothing more is read or written. What was written so far begins an answer whatever records
+    /// follow, both where the work still stood and where it broke off.
+    fn give_up(self)
+        ensures stood { (j : Job N) (xs : List Rec) (front : List ℕ) → stands j self xs front
+            → IsOpen j NoMemory xs front }
+        ensures broke { (j : Job N) (halt : Halt) (xs : List Rec) (front : List ℕ)
+            → halted j self halt xs front → IsOpen j halt xs front };
 }

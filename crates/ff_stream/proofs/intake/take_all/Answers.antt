@@ -18,7 +18,7 @@ pub returns-in_err-fault-clause-err : goal.returns-in_err-fault-clause-err
 returns-in_err-fault-clause-err g c =
     let p = err_from_is_err_and c.from_residual.result c.from_residual.ensures.1 in
     rw (p.1, p.2)
-    (ReadsSome-piece g.W.Work.stands c.args.work.now c.pieces.work c.args.reader.now c.pieces.reader c.in_err-fault.field-0.0 _ _ _ _ _ _ (take c.in-Ok.got c.read.new.buf)
+    (ReadsSome-piece g.W.Work.stands g.W.Work.halted c.args.work.now c.pieces.work c.take_piece.new.work c.args.reader.now c.pieces.reader c.in_err-fault.field-0.0 _ _ _ _ _ _ (take c.in-Ok.got c.read.new.buf)
     c.pieces.invariant.reads c.in-Ok.ensures.bytes.0 c.in_err-fault.ensures.err)
 
 pub returns-in-Some-clause-ok : goal.returns-in-Some-clause-ok
@@ -60,4 +60,4 @@ returns-in_err-pause-clause-err g c =
     c.pieces.invariant.reads c.in-Ok.ensures.bytes.0 c.in_ok-fault.ensures.read.state c.in_ok-fault.ensures.ok in
     let p = err_from_is_err_and c.from_residual-in_err-pause.result c.from_residual-in_err-pause.ensures.1 in
     rw (p.1, p.2)
-    (ReadsSome-paused g.W.Work.stands c.args.work.now c.take_piece.new.work c.args.reader.now c.take_piece.new.reader c.in_err-pause.field-0.0 _ _ _ _ _ so_far c.in_err-pause.ensures.err)
+    (ReadsSome-paused g.W.Work.stands g.W.Work.halted c.args.work.now c.take_piece.new.work c.pause.new.self c.args.reader.now c.take_piece.new.reader c.in_err-pause.field-0.0 _ _ _ _ _ so_far c.in_err-pause.ensures.err)

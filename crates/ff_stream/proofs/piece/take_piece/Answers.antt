@@ -1,13 +1,13 @@
 -- A part more of the piece was taken, or the rest was passed over.
-use Rattle.std.proofs.Common.{[], None, Some, length, length-append, refl, ap, ◌∙◌, subst, ◌++◌, arith}
+use Rattle.std.proofs.Common.{[], Some, length, length-append, refl, ap, ◌∙◌, subst, ◌++◌, arith}
 use Rattle.std.specs.Option.{option_map}
 use Rattle.std.proofs.lemmas.Result.{err_from_is_err_and}
 use Rattle.ff_rec.specs.declared.fault.FeedFault.TheVariants.{Line as Passed}
 use Rattle.ff_rec.specs.Reading.{given}
 use Rattle.ff_stream.specs.Reads.{HasTaken}
 use Rattle.ff_stream.specs.declared.fault.Halt.TheVariants.{NoMemory}
-use Rattle.ff_stream.proofs.Goings.{Breaks-memory, Goes-drops}
-use Rattle.ff_stream.proofs.Readings.{Breaks-part, Consumes-all, Consumes-part, Goes-stopped, Goes-whole, HasTaken-after, HasTaken-stopped, Reads-piece, ReadsSome-piece}
+use Rattle.ff_stream.proofs.Goings.{Goes-drops, Halts-memory}
+use Rattle.ff_stream.proofs.Readings.{Consumes-all, Consumes-part, Goes-stopped, Goes-whole, Halts-part, HasTaken-after, HasTaken-stopped, Reads-piece, ReadsSome-piece}
 use Rattle.ff_stream.proofs.piece.take_piece.Goals as goal
 
 pub returns-in_err-pass_over-clause-err : goal.returns-in_err-pass_over-clause-err
@@ -15,9 +15,9 @@ returns-in_err-pass_over-clause-err g c =
     let p = err_from_is_err_and c.from_residual.result c.from_residual.ensures.1 in
     let rest = c.loop-rest.rest.now in
     rw (p.1, p.2)
-    (Breaks-part g.W.Work.stands c.args.work.now c.args.reader.now NoMemory c.args.piece.now [] _ _
-    (ReadsSome-piece g.W.Work.stands c.args.work.now c.loop-rest.work c.args.reader.now c.loop-rest.reader NoMemory (Some c.args.piece.now) (Some rest) (Some []) _ _ _ rest
-    c.loop-rest.invariant.reads (Consumes-all rest) (Breaks-memory g.W.Work.stands g.met.W.Work.opens c.loop-rest.work (given c.loop-rest.reader rest) _)))
+    (Halts-part g.W.Work.stands g.W.Work.halted c.args.work.now c.loop-rest.work c.args.reader.now NoMemory c.args.piece.now [] _ _
+    (ReadsSome-piece g.W.Work.stands g.W.Work.halted c.args.work.now c.loop-rest.work c.loop-rest.work c.args.reader.now c.loop-rest.reader NoMemory (Some c.args.piece.now) (Some rest) (Some []) _ _ _ rest
+    c.loop-rest.invariant.reads (Consumes-all rest) (Halts-memory g.W.Work.stands g.W.Work.halted c.loop-rest.work (given c.loop-rest.reader rest) _)))
 
 pub returns-then-drops-clause-ok : goal.returns-then-drops-clause-ok
 returns-then-drops-clause-ok g c =
@@ -39,8 +39,8 @@ returns-in_err-fault-clause-err g c =
     let behind = c.split_at.result.1.now in
     let read = Consumes-part c.loop-rest.rest.now part behind c.min.result c.split_at.ensures.front c.split_at.ensures.back in
     rw (p.1, p.2)
-    (Breaks-part g.W.Work.stands c.args.work.now c.args.reader.now c.in_err-fault.field-0.0 c.args.piece.now behind _ _
-    (ReadsSome-piece g.W.Work.stands c.args.work.now c.loop-rest.work c.args.reader.now c.loop-rest.reader c.in_err-fault.field-0.0
+    (Halts-part g.W.Work.stands g.W.Work.halted c.args.work.now c.take_part.new.work c.args.reader.now c.in_err-fault.field-0.0 c.args.piece.now behind _ _
+    (ReadsSome-piece g.W.Work.stands g.W.Work.halted c.args.work.now c.loop-rest.work c.take_part.new.work c.args.reader.now c.loop-rest.reader c.in_err-fault.field-0.0
     (Some c.args.piece.now) (Some c.loop-rest.rest.now) (Some behind) _ _ _ part c.loop-rest.invariant.reads read c.in_err-fault.ensures.err))
 
 pub returns-in-Some-clause-ok : goal.returns-in-Some-clause-ok

@@ -1,7 +1,7 @@
 -- A record more was held, and some of what is held was written.
 use Rattle.std.proofs.Common.{◌∙◌, refl}
 use Rattle.std.proofs.lemmas.Result.{err_from_is_err_and}
-use Rattle.ff_stream.proofs.Writings.{Writes-all, Writes-none, Writes-record, WritesSome-all, WritesSome-record, WritesSome-writes}
+use Rattle.ff_stream.proofs.Writings.{Writes-all, Writes-none, Writes-record, WritesSome-all, WritesSome-record}
 use Rattle.ff_stream.proofs.write.write_records.Goals as goal
 
 pub loop-r-init : goal.loop-r-init
