@@ -27,7 +27,8 @@ pub(crate) fn take_all<N: Node, W: Work<N>, I: Source, O: Sink>(
         (I.left source.old) (I.left source.new) (O.taken sink.old) (O.taken sink.new)) }
     ensures stop { IfOk result (λ stop. StopsAt stop reader.new.fault
         (I.ended source.new) (I.left source.new)) }
-    ensures err { IfErr result (λ halt. ReadsSome W.stands W.halted work.old reader.old halt work.new
+    ensures err { IfErr result (λ halt. ReadsSome W.stands W.halted
+        work.old reader.old halt work.new
         (I.left source.old) (I.left source.new) (O.taken sink.old) (O.taken sink.new)) }
     ensures input_faults { I.faults source.new ≡ source_count (I.faults source.old) result }
     ensures output_faults { O.faults sink.new ≡ halt_count (O.faults sink.old) result }

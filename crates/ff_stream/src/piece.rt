@@ -120,8 +120,8 @@ pub(crate) fn hand_all<N: Node, W: Work<N>, O: Sink>(
     ensures ok { OnOk result (Goes W.stands work.old queue.old.items work.new
         (O.taken sink.old) (O.taken sink.new)) }
     ensures used { OnOk result (queue.new.items ≡ []) }
-    ensures err { IfErr result (λ halt. Halts W.stands W.halted work.old queue.old.items halt work.new
-        (O.taken sink.old) (O.taken sink.new)) }
+    ensures err { IfErr result (λ halt. Halts W.stands W.halted work.old
+        queue.old.items halt work.new (O.taken sink.old) (O.taken sink.new)) }
     ensures counts { O.faults sink.new ≡ halt_count (O.faults sink.old) result }
 {
     while let Some(r) = queue.pop_front() {

@@ -7,9 +7,9 @@ use ff_node::Node;
 use ff_rec::Record;
 use std::alloc::Global;
 
-/// A way to do the work of a run: it takes the records of a stream one after another as they are read, and writes what is
-/// sent for them then or at the end. Whoever runs it ends it by `finish`, or by `give_up` where that comes too early, so
-/// work may hold what has to be put back, as threads that run.
+/// A way to do the work of a run: it takes the records of a stream one after another as they are read, and writes
+/// what is sent for them then or at the end. Whoever runs it ends it by `finish` or by `give_up`, so it may hold what
+/// can't be let go, as threads that have to be joined.
 pub trait Work<N: Node> {
     ghost use Rattle.std.specs.Prelude.{ℕ, List, IsTrue, IfErr, OnOk, ◌≡◌, [], ◌∷◌};
     ghost use Rattle.ff_rec.specs.Lines.{Rec};
@@ -33,8 +33,8 @@ pub trait Work<N: Node> {
             (O.taken sink.old) (O.taken sink.new)) }
         ensures counts { O.faults sink.new ≡ halt_count (O.faults sink.old) result };
 
-    /// Called where the next records may be long in coming: what is held for the sink is written. After a refusal the work
-    /// is to be given up.
+    /// Called where the next records may be long in coming: what is held for the sink is written. After a refusal the
+    /// work is to be given up.
     fn pause<O: Sink>(&mut self, sink: &mut O) -> Result<(), Halt>
         ensures ok { OnOk result (Goes stands self.old [] self.new
             (O.taken sink.old) (O.taken sink.new)) }
@@ -51,8 +51,8 @@ pub trait Work<N: Node> {
         ensures ends { Finishes stands self (O.taken sink.old) (O.taken sink.new) result }
         ensures counts { O.faults sink.new ≡ output_count (O.faults sink.old) result };
 
-    /// Ends the run early: nothing more is read or written. What was written so far begins an answer whatever records
-    /// follow, both where the work still stood and where it broke off.
+    /// Ends the run early: nothing more is written. What was written begins an answer whatever records follow, both
+    /// where the work still stood and where it broke off.
     fn give_up(self)
         ensures stood { (j : Job N) (xs : List Rec) (front : List ℕ) → stands j self xs front
             → IsOpen j NoMemory xs front }
