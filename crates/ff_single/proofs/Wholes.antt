@@ -1,5 +1,5 @@
 -- How a network is run of which nothing is sent before the whole input is read.
-use Rattle.std.proofs.Common.{◌≡◌, ℕ, List, [], ◌∷◌, ◌++◌, Ok, Err, inl, refl, sym, ap, ◌∙◌, append-nil, subst}
+use Rattle.std.proofs.Common.{◌≡◌, ℕ, List, [], ◌∷◌, ◌++◌, Ok, Err, inl, refl, sym, ◌∙◌, append-nil, subst}
 use Rattle.std.specs.Prelude.{Option, Result}
 use Rattle.std.proofs.KnownBytes.{Appends-nil, Keeps-refl}
 use Rattle.ff_rec.specs.Lines.{Rec, text}
@@ -11,12 +11,13 @@ use Rattle.ff_stream.specs.Endings.{halted}
 use Rattle.ff_stream.specs.FlowLaws.{Answers-mean, Begun-beginning}
 use Rattle.ff_stream.specs.Jobs.{Job}
 use Rattle.ff_stream.specs.Texts.{Writes, WritesSome}
-use Rattle.ff_stream.specs.Works.{Ends, Goes, HasBroken}
+use Rattle.ff_stream.specs.Works.{Ends, Goes, Halts, HasBroken, IsOpen}
 use Rattle.ff_stream.specs.declared.ending.Report.{Report}
 use Rattle.ff_stream.specs.declared.fault.Halt.{Halt}
 use Rattle.ff_stream.specs.declared.fault.Halt.TheVariants.{Write, NoMemory}
 use Rattle.ff_stream.specs.declared.fault.RunFault.{RunFault}
 use Rattle.ff_stream.specs.declared.fault.RunFault.TheVariants.{Tasks, NoMemory as NoMemoryFault}
+use Rattle.ff_stream.proofs.Goings.{Halts-broken}
 use Rattle.ff_single.specs.Wholes.{Gathers}
 
 -- how work ends of this job, for these records
@@ -68,6 +69,17 @@ Goes-pushed stands w v r t adds = record {
   taken = Appends-nil t;
   keeps = λ j xs front at. subst (λ l. stands j v (xs ++ r ∷ []) l) (sym (append-nil front)) (adds j xs front at);
 }
+
+-- nothing was written yet
+pub IsOpen-nothing : {N : Type 0} (j : Job N) (xs : List Rec) (front : List ℕ) → front ≡ [] → IsOpen j NoMemory xs front
+IsOpen-nothing j xs front nothing = record { begun = λ zs. inl nothing; waits = λ wraps. (nothing, refl) }
+
+-- memory ran out at a record
+pub Halts-unpushed : {N W : Type 0} (stands : Job N → W → List Rec → List ℕ → Type 0) (w v : W) (r : Rec) (t : Option (List ℕ))
+    → ((j : Job N) (xs : List Rec) (front : List ℕ) → stands j w xs front → front ≡ []) → Halts stands (λ j _ halt xs front. IsOpen j halt xs front) w (r ∷ []) NoMemory v t t
+Halts-unpushed stands w v r t nothing =
+    Halts-broken stands (λ j _ halt xs front. IsOpen j halt xs front) w v (r ∷ []) NoMemory [] t t (Appends-nil t)
+    (λ j xs front at. IsOpen-nothing j (xs ++ r ∷ []) (front ++ []) (append-nil front ∙ nothing j xs front at))
 
 Ends-gathers : {N : Type 0} (own j : Job N) (records xs : List Rec) (front : List ℕ) (t u : Option (List ℕ)) (answer : Result Report RunFault) → Gathers own records j xs front
     → Ends own records [] t u answer → Ends j xs front t u answer

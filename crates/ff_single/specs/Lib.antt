@@ -1,4 +1,2 @@
 pub mod Pipelines
 pub mod Wholes
--- lemmas: nothing to trust
-pub mod WholeLaws

@@ -26,11 +26,13 @@ impl<'a, N: Node> Work<N> for Whole<'a, N> {
     ghost use Rattle.ff_net.specs.Tree.{tree_of};
     ghost use Rattle.ff_stream.specs.Jobs.{job};
     ghost use Rattle.ff_single.specs.Wholes.{Gathers};
-    ghost use Rattle.ff_single.specs.WholeLaws.{IsOpen-nothing};
+    ghost use Rattle.ff_stream.specs.Works.{IsOpen};
 
     ghost stands = { λ j w xs front.
         Gathers (job N.does (tree_of w.checked.now.net) w.checked.now.version w.limit w.keep) w.records
         j xs front };
+
+    ghost halted = { λ j _ halt xs front. IsOpen j halt xs front };
 
     fn take<O: Sink>(&mut self, r: Record, _sink: &mut O) -> Result<(), Halt> {
         Ok(self.records.push(r)?)
@@ -58,7 +60,7 @@ impl<'a, N: Node> Work<N> for Whole<'a, N> {
         }
     }
 
-    ghost opens = { λ j w xs front h. IsOpen-nothing j xs front h.nothing };
+    fn give_up(self) {}
 }
 
 /// Reads the whole input, computes what the network means for its records, and writes that.
