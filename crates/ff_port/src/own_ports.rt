@@ -40,6 +40,15 @@ impl<I: Inbox<T>, O: Outbox<T>, T> OwnPorts<I, O, T> {
     {
         self.taken
     }
+
+    /// The ins and the outs, in their order.
+    pub fn into_ends(self) -> (Vec<I>, Vec<O>)
+        ensures ins { result.0 ≡ self.ins }
+        ensures outs { result.1 ≡ self.outs }
+    {
+        let OwnPorts { ins, outs, .. } = self;
+        (ins, outs)
+    }
 }
 
 impl<I: Inbox<T>, O: Outbox<T>, T> Ports<T> for OwnPorts<I, O, T> {

@@ -1,4 +1,5 @@
 pub mod Wiring
+pub mod Chains
 pub mod Links
 pub mod Parties
 pub mod Core

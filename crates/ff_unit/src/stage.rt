@@ -1,6 +1,8 @@
 // A stage: a node between its in and its out.
-ghost use Rattle.std.specs.Prelude.{◌≡◌};
+ghost use Rattle.std.specs.Prelude.{◌≡◌, [], ◌∷◌};
 ghost use Rattle.ff_unit.specs.Stage.{opened_stage};
+ghost use Rattle.ff_unit.specs.StageUnit.{stage_does};
+ghost use Rattle.ff_unit.specs.Units.{Ran};
 
 mod held;
 mod steps;
@@ -57,7 +59,8 @@ impl<N> Model for Stage<N> {
 impl<N: Node> Stage<N> {
     /// A stage of a node, which is put into its opening state. Rejects are kept where `keep` says so.
     pub fn new(alloc: Global, node: N, keep: bool) -> Stage<N>
-        ensures { result ≡ opened_stage N.does node keep }
+        ensures opened { result ≡ opened_stage N.does node keep }
+        ensures ran { Ran (stage_does N.does) result ([] ∷ []) ([] ∷ []) }
     {
         let mut node = node;
         node.svc_init();

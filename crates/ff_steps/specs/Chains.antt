@@ -1,0 +1,16 @@
+-- Units one behind the other, each with one in and one out.
+use Rattle.std.specs.Prelude.{◌≡◌, List, [], ◌∷◌, ◌++◌}
+use Rattle.ff_node.specs.Runs.{Message}
+use Rattle.ff_unit.specs.Units.{Doing, Ran}
+
+-- a unit took the first of the messages before it, and put those behind it
+pub record Passes {U : Type 0} (d : Doing U) (before : List Message) (u : U) (behind : List Message) : Type 0 where
+  pub got : List Message
+  pub left : List Message
+  pub splits : before ≡ got ++ left
+  pub ran : Ran d u (got ∷ []) (behind ∷ [])
+
+-- each of these units took of what the one before it put, the first of the messages before all of them
+abbrev pub Chained : {U : Type 0} → Doing U → List Message → List U → List Message → Type 0
+Chained d before [] behind = behind ≡ before
+Chained d before (u ∷ us) behind = (between : List Message) × Passes d before u between × Chained d between us behind
