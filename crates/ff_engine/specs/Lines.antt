@@ -2,8 +2,6 @@
 use Rattle.std.specs.Prelude.{◌≡◌, List, [], ◌∷◌, ◌++◌}
 use Rattle.ff_node.specs.Runs.{Message}
 use Rattle.ff_ring.specs.Names.{RingName}
-use Rattle.ff_steps.specs.Chains.{Chained}
-use Rattle.ff_unit.specs.Units.{Doing}
 use Rattle.ff_engine.specs.Jobs.{JobState}
 
 -- each job reads the ring that the one before it writes, from the first ring to the last
@@ -11,9 +9,15 @@ abbrev pub Linked : {U : Type 0} → RingName → List (JobState U) → RingName
 Linked first [] last = last ≡ first
 Linked first (job ∷ jobs) last = (job.reads ≡ first ∷ []) × ((out : RingName) × (job.writes ≡ out ∷ []) × Linked out jobs last)
 
--- of what was put before these units and what they put, each took a beginning, and behind the last so much was taken
-pub record IsSettled {U : Type 0} (d : Doing U) (before : List Message) (units : List U) (taken : List Message) : Type 0 where
-  pub behind : List Message
-  pub chained : Chained d before units behind
+-- a job took the first of the messages before it, and put those behind it
+pub record JobPasses {U : Type 0} (before : List Message) (job : JobState U) (behind : List Message) : Type 0 where
+  pub got : List Message
   pub left : List Message
-  pub splits : behind ≡ taken ++ left
+  pub splits : before ≡ got ++ left
+  pub gots : job.gots ≡ got ∷ []
+  pub puts : job.puts ≡ behind ∷ []
+
+-- each of these jobs took of what the one before it put, the first of the messages before all of them
+abbrev pub JobsChained : {U : Type 0} → List Message → List (JobState U) → List Message → Type 0
+JobsChained before [] behind = behind ≡ before
+JobsChained before (job ∷ jobs) behind = (between : List Message) × JobPasses before job between × JobsChained between jobs behind

@@ -1,0 +1,61 @@
+-- The calling thread's ends of a line of rings, and how it goes on.
+use Rattle.std.specs.Prelude.{◌≡◌, ℕ, List, [], ◌∷◌, ◌++◌, ◌⊎◌, Option, None, Some}
+use Rattle.std.specs.Io.KnownBytes.{Appends}
+use Rattle.ff_rec.specs.Lines.{Rec, text}
+use Rattle.ff_rec.specs.Streams.{items, closed}
+use Rattle.ff_rec.specs.declared.msg.Msg.TheVariants.{Eos, Abort}
+use Rattle.ff_node.specs.Runs.{Message}
+use Rattle.ff_port.specs.declared.answers.End.{End}
+use Rattle.ff_ring.specs.Names.{RingName}
+
+pub record CallerState : Type 0 where
+  -- what it put on the first ring, and what it took from the last one
+  pub put : List Message
+  pub got : List Message
+  -- the text that is held to be written
+  pub text : List ℕ
+  -- how the stream ended, once its end came
+  pub end : Option End
+  -- the ring that it writes, and the one that it reads
+  pub writes : RingName
+  pub reads : RingName
+
+-- these messages end with Eos
+pub record EndsWithEos (ms : List Message) : Type 0 where
+  pub front : List Message
+  pub is : ms ≡ closed front
+
+-- these bytes were written, and the rest of the text of what came is held
+abbrev pub Shows : List ℕ → CallerState → Type 0
+Shows front c = text (items c.got) ≡ front ++ c.text
+
+-- the rings stay
+pub record SameRings (c c' : CallerState) : Type 0 where
+  pub writes : c'.writes ≡ c.writes
+  pub reads : c'.reads ≡ c.reads
+
+-- records came, and bytes were written
+pub record Moves (c c' : CallerState) (before now : Option (List ℕ)) : Type 0 where
+  pub written : List ℕ
+  pub taken : Appends before now written
+  pub shows : (front : List ℕ) → Shows front c → Shows (front ++ written) c'
+
+-- records came, and the writing of their text broke off
+pub record Breaks (c c' : CallerState) (before now : Option (List ℕ)) : Type 0 where
+  pub written : List ℕ
+  pub taken : Appends before now written
+  pub shows : (front : List ℕ) → Shows front c → (back : List ℕ) × (text (items c'.got) ≡ (front ++ written) ++ back)
+
+-- more was taken
+pub record TakesMore (c c' : CallerState) : Type 0 where
+  pub more : List Message
+  pub is : c'.got ≡ c.got ++ more
+
+-- a message was taken, or nothing happened
+abbrev pub Receives : CallerState → Option Message → CallerState → Type 0
+Receives c None c' = c' ≡ c
+Receives c (Some m) c' = (c'.got ≡ c.got ++ m ∷ []) × (c'.put ≡ c.put) × (c'.text ≡ c.text) × SameRings c c'
+
+-- Eos or Abort was put behind these messages
+abbrev pub EndsOnce : List Message → List Message → Type 0
+EndsOnce before now = (now ≡ before ++ Eos ∷ []) ⊎ (now ≡ before ++ Abort ∷ [])

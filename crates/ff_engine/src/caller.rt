@@ -1,0 +1,114 @@
+// The calling thread's ends of a line of rings.
+ghost use Rattle.std.specs.Prelude.{◌≡◌, [], None};
+ghost use Rattle.ff_ring.specs.Ends.{put_of, got_of, read_ring, written_ring};
+ghost use Rattle.ff_engine.specs.Callers.{Receives};
+
+mod feeding;
+mod showing;
+
+use ff_port::{End, Inbox, Outbox};
+use ff_rec::{Msg, Record};
+use ff_ring::{Pause, RingIn, RingOut};
+use ff_stream::Text;
+use std::alloc::Global;
+use std::marker::Model;
+use std::sync::Wait;
+
+/// The ends that the calling thread has: it feeds the first ring, and writes the records that come over the last one.
+#[derive(Drop)]
+pub(crate) struct Caller {
+    first: RingOut<Record>,
+    last: RingIn<Record>,
+    pause: Pause,
+    // What came and isn't written yet.
+    text: Text,
+    // How the stream ended, once its end came. Nothing is taken then.
+    end: Option<End>,
+}
+
+impl Model for Caller {
+    ghost use Rattle.std.specs.Prelude.{◌≡◌, Some};
+    ghost use Rattle.ff_port.specs.declared.answers.End.TheVariants.{Eos};
+    ghost use Rattle.ff_ring.specs.Ends.{put_of, got_of, read_ring, written_ring};
+    ghost use Rattle.ff_engine.specs.Callers.{CallerState, EndsWithEos};
+
+    ghost Value = { CallerState };
+
+    ghost view = { λ c. record {
+      put = put_of c.first;
+      got = got_of c.last;
+      text = c.text;
+      end = c.end;
+      writes = written_ring c.first;
+      reads = read_ring c.last;
+    } };
+
+    ghost invariant = { λ c. c.end ≡ Some Eos → EndsWithEos (got_of c.last) };
+}
+
+impl Caller {
+    /// The ends of a line at which nothing happened.
+    pub(crate) fn new(
+        alloc: Global,
+        first: RingOut<Record>,
+        last: RingIn<Record>,
+        pause: Pause,
+    ) -> Caller
+        ensures { result ≡ record {
+          put = put_of first; got = got_of last; text = []; end = None;
+          writes = written_ring first; reads = read_ring last;
+        } }
+    {
+        Caller {
+            first,
+            last,
+            pause,
+            text: Text::new(alloc),
+            end: None,
+        }
+    }
+
+    /// How the stream ended, once its end came.
+    pub(crate) fn end(&self) -> Option<End>
+        ensures { result ≡ self.now.end }
+    {
+        self.end
+    }
+
+    /// The two ends.
+    pub(crate) fn into_ends(self) -> (RingOut<Record>, RingIn<Record>)
+        ensures put { put_of result.0 ≡ self.put }
+        ensures got { got_of result.1 ≡ self.got }
+        ensures writes { written_ring result.0 ≡ self.writes }
+        ensures reads { read_ring result.1 ≡ self.reads }
+    {
+        let Caller { first, last, .. } = self;
+        (first, last)
+    }
+
+    /// Takes a message. None comes behind the end.
+    pub(crate) fn take(&mut self) -> Option<Msg<Record>>
+        ensures { Receives self.old result self.new }
+    {
+        if self.end.is_some() {
+            return None;
+        }
+        let m = self.last.try_take()?;
+        match &m {
+            Msg::Eos => self.end = Some(End::Eos),
+            Msg::Abort => self.end = Some(End::Abort),
+            Msg::Item(_) | Msg::Mark | Msg::Pick(_) => {}
+        }
+        Some(m)
+    }
+
+    /// A pause. Before it parks, it hands over what waits.
+    pub(crate) fn rest<R: Wait>(&mut self, rt: &R)
+        ensures { self.new ≡ self.old }
+    {
+        if !self.pause.spin() {
+            self.first.flush();
+            self.pause.park(rt);
+        }
+    }
+}
