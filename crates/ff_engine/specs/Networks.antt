@@ -1,6 +1,5 @@
 -- The jobs that stand for a network, and how far a run by threads has come.
-use Rattle.std.specs.Prelude.{◌≡◌, ℕ, ◌+◌, ◌≤◌, List, [], ◌++◌, map, length}
-use Rattle.std.specs.List.{All}
+use Rattle.std.specs.Prelude.{◌≡◌, ℕ, ◌+◌, ◌≤◌, List, ◌++◌, map, length}
 use Rattle.ff_rec.specs.Lines.{Rec, text}
 use Rattle.ff_rec.specs.Streams.{items, carried}
 use Rattle.ff_node.specs.Behaviour.{Behaviour}
@@ -13,19 +12,16 @@ use Rattle.ff_spawn.specs.Counts.{RoseBy}
 use Rattle.ff_steps.specs.Units.{combs_of, opened_units}
 use Rattle.ff_stream.specs.Jobs.{Job}
 use Rattle.ff_unit.specs.Stage.{StageState}
-use Rattle.ff_unit.specs.StageUnit.{stage_does}
 use Rattle.ff_engine.specs.Callers.{CallerState, Shows}
-use Rattle.ff_engine.specs.Jobs.{JobState, IsFresh}
-use Rattle.ff_engine.specs.Lines.{Linked}
+use Rattle.ff_engine.specs.Jobs.{JobState}
 
 -- the state of a unit of the network
 abbrev pub UnitOf : Type 0 → Type 0
 UnitOf N = StageState (List (Part N))
 
--- these jobs were made of the network of a run, and stand between the calling thread's two ends
-pub record AreJobsOf {N : Type 0} (b : Behaviour N) (j : Job N) (c : CallerState) (jobs : List (JobState (UnitOf N))) : Type 0 where
+-- these jobs were made of the network of a run
+pub record AreJobsOf {N : Type 0} (b : Behaviour N) (j : Job N) (jobs : List (JobState (UnitOf N))) : Type 0 where
   pub does : j.does ≡ b
-  pub linked : Linked c.writes jobs c.reads
   pub units_are : map (λ job. job.unit) jobs ≡ opened_units b j.keep (node_groups j.net)
   pub stand : ArePipelineOf b j.net (comb_node b) (combs_of b (node_groups j.net))
   pub number : length (node_groups j.net) ≡ units j.net
@@ -35,14 +31,14 @@ pub record AreJobsOf {N : Type 0} (b : Behaviour N) (j : Job N) (c : CallerState
 pub record HasFed {N : Type 0} (b : Behaviour N) (j : Job N) (c : CallerState) (jobs : List (JobState (UnitOf N))) (xs : List Rec) (front : List ℕ) : Type 0 where
   pub put : c.put ≡ carried xs
   pub shows : Shows front c
-  pub made : AreJobsOf b j c jobs
+  pub made : AreJobsOf b j jobs
 
 -- the same where writing broke off: of the text of what came these bytes were written
 pub record HasStopped {N : Type 0} (b : Behaviour N) (j : Job N) (c : CallerState) (jobs : List (JobState (UnitOf N))) (xs : List Rec) (front : List ℕ) : Type 0 where
   pub put : c.put ≡ carried xs
   pub back : List ℕ
   pub splits : text (items c.got) ≡ front ++ back
-  pub made : AreJobsOf b j c jobs
+  pub made : AreJobsOf b j jobs
 
 -- the jobs handled each record and an end for each unit
 abbrev pub WorkedThrough : {N : Type 0} → Job N → List Rec → ℕ → ℕ → Type 0

@@ -75,6 +75,11 @@ impl Caller {
         self.end
     }
 
+    /// Whether the stream was cut off: an Abort came.
+    pub(crate) fn is_cut(&self) -> bool {
+        self.end == Some(End::Abort)
+    }
+
     /// The two ends.
     pub(crate) fn into_ends(self) -> (RingOut<Record>, RingIn<Record>)
         ensures put { put_of result.0 ≡ self.put }

@@ -4,6 +4,7 @@ ghost use Rattle.ff_rec.specs.Streams.{IsOpen};
 ghost use Rattle.ff_rec.specs.declared.msg.Msg.TheVariants.{Eos};
 ghost use Rattle.ff_stream.specs.Works.{halt_count};
 ghost use Rattle.ff_engine.specs.Callers.{Moves, Breaks, SameRings, EndsOnce};
+ghost use Rattle.ff_engine.specs.Lines.{Linked};
 
 use crate::caller::Caller;
 use crate::crew::Crew;
@@ -27,6 +28,8 @@ pub(crate) struct Line<N: Node, R: Wait, S> {
     pub(crate) crew: Crew<Stage<Comb<N>>, R>,
     pub(crate) rt: R,
     pub(crate) joined_by: PhantomData<S>,
+    ghost open: { IsOpen caller.put },
+    ghost linked: { Linked caller.writes crew caller.reads },
 }
 
 impl<
@@ -48,6 +51,9 @@ impl<
         (S.worked by) (S.worked by') };
 
     fn take<O: Sink>(&mut self, r: Record, sink: &mut O) -> Result<(), Halt> {
+        if self.caller.is_cut() {
+            return Err(Halt::NoMemory);
+        }
         self.caller.feed(&self.rt, Msg::Item(r), sink)
     }
 

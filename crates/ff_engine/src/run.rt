@@ -1,5 +1,5 @@
 // A network by threads.
-ghost use Rattle.std.specs.Prelude.{◌≡◌, ◌≤◌, ◌+◌, ℕ, List, false, length, IfOk, OnOk};
+ghost use Rattle.std.specs.Prelude.{◌≡◌, ◌≤◌, ◌+◌, ℕ, List, false, length, IfOk, OnOk, not, All, vec_len, vec_capacity};
 ghost use Rattle.ff_rec.specs.Lines.{Rec};
 ghost use Rattle.ff_net.specs.Counts.{units};
 ghost use Rattle.ff_net.specs.Forms.{has_copies};
@@ -8,6 +8,7 @@ ghost use Rattle.ff_spawn.specs.Counts.{RoseBy};
 ghost use Rattle.ff_stream.specs.Endings.{Told};
 ghost use Rattle.ff_stream.specs.Jobs.{job};
 ghost use Rattle.ff_stream.specs.Streams.{streams};
+ghost use Rattle.ff_engine.specs.Jobs.{IsFresh};
 ghost use Rattle.ff_engine.specs.Runs.{NetRan, CountsNetInput, refused_count, net_output_count};
 
 use crate::caller::Caller;
@@ -22,7 +23,7 @@ use ff_ring::Pause;
 use ff_spawn::{RunningJobs, Spawner};
 use ff_steps::make_units;
 use ff_stream::{Ending, run_work};
-use ff_unit::Stage;
+use ff_unit::{Stage, Unit};
 use std::alloc::Global;
 use std::marker::PhantomData;
 use std::sync::{Arc, Wait};
@@ -44,11 +45,11 @@ pub fn run_net<
     O: Sink,
     S: Spawner<NetJob<Stage<Comb<N>>, R>>,
 >(
+    rt: &R,
     alloc: Global,
     checked: &Checked<N>,
     cap: u32,
     keep: bool,
-    rt: &R,
     source: &mut I,
     sink: &mut O,
     spawner: &mut S,

@@ -105,6 +105,7 @@ module _ (one : SpellingIsOfOneNet) (words : List (List ℕ)) (before now : Outs
   IsStop-accepted (Given (given.BadText at kind)) job t quiet a comes counts = IsBadText-accepted a.given job t at kind a a.is_description (of_given words a.given _ a.is_description comes.0)
   IsStop-accepted (Given (given.BrokenRule fault)) job t quiet a comes counts = IsBroken-accepted a.given job t fault a a.is_description (of_given words a.given _ a.is_description comes.0)
   IsStop-accepted (Given given.NoMemory) job t quiet a comes counts = tt
+  IsStop-accepted (Run run.Refused) job t quiet a comes counts = quiet.starts (Rose-more before.refused now.refused counts.starts)
   IsStop-accepted (Run (run.Tasks m)) job t quiet a comes counts = comes
   IsStop-accepted (Run run.Write) job t quiet a comes counts = quiet.output (Rose-more before.output_faults now.output_faults counts.output)
   IsStop-accepted (Run (run.Rejects name n)) job t quiet a comes counts = quiet.files (Rose-more before.files_faults now.files_faults counts.files)

@@ -164,6 +164,7 @@ given_low (given.File name) = omega arith
 given_low _ = omega arith
 
 run_low : (cause : RunCause) → 2 ≤ run_status cause
+run_low run.Refused = omega arith
 run_low (run.Tasks m) = omega arith
 run_low _ = omega arith
 
@@ -209,18 +210,19 @@ module _ (words : List (List ℕ)) (before now : Outside) where
   no_command status (Ok n) is comes none = absurd (None-Some (command words) comes.job none comes.is_command)
   no_command status (Err fault) is comes none = fault_no_command status fault is comes none
 
--- each status is one of the six
-pub Contains-status : (status : ℕ) (answer : Result ℕ Fault) → status ≡ status_of answer → Contains (0 ∷ 1 ∷ 2 ∷ 3 ∷ 4 ∷ 6 ∷ []) status
+-- each status is one of the seven
+pub Contains-status : (status : ℕ) (answer : Result ℕ Fault) → status ≡ status_of answer → Contains (0 ∷ 1 ∷ 2 ∷ 3 ∷ 4 ∷ 5 ∷ 6 ∷ []) status
 Contains-status status (Ok n) is = (0, omega arith, sym is)
 Contains-status status (Err (Words unread.Usage)) is = (1, omega arith, sym is)
-Contains-status status (Err (Words unread.NoMemory)) is = (5, omega arith, sym is)
+Contains-status status (Err (Words unread.NoMemory)) is = (6, omega arith, sym is)
 Contains-status status (Err NotBuilt) is = (2, omega arith, sym is)
 Contains-status status (Err (Given (given.File name))) is = (4, omega arith, sym is)
-Contains-status status (Err (Given given.NoMemory)) is = (5, omega arith, sym is)
+Contains-status status (Err (Given given.NoMemory)) is = (6, omega arith, sym is)
 Contains-status status (Err (Given fault)) is = (2, omega arith, sym is)
+Contains-status status (Err (Run run.Refused)) is = (5, omega arith, sym is)
 Contains-status status (Err (Run (run.Tasks m))) is = (3, omega arith, sym is)
 Contains-status status (Err (Run (run.Line f n))) is = (3, omega arith, sym is)
-Contains-status status (Err (Run run.NoMemory)) is = (5, omega arith, sym is)
+Contains-status status (Err (Run run.NoMemory)) is = (6, omega arith, sym is)
 Contains-status status (Err (Run cause)) is = (4, omega arith, sym is)
 Contains-status status (Err (Check check.Write)) is = (4, omega arith, sym is)
-Contains-status status (Err (Check check.NoMemory)) is = (5, omega arith, sym is)
+Contains-status status (Err (Check check.NoMemory)) is = (6, omega arith, sym is)

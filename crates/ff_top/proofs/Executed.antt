@@ -1,6 +1,6 @@
 -- From what the parts of a call did to how the call ends.
 use Rattle.std.proofs.Common.{◌≡◌, ℕ, List, Option, None, Some, IsSome, IsSomeAnd, refl, sym, ap, subst, ◌∙◌, inl, inr}
-use Rattle.std.specs.Prelude.{Result, Ok, Err, option_and_then}
+use Rattle.std.specs.Prelude.{Bool, Result, Ok, Err, option_and_then}
 use Rattle.std.proofs.KnownBytes.{Keeps-refl}
 use Rattle.ff_io.specs.FileLaws.{KeepsAll-refl, KeepsAll-trans, KeepsOthers-trans, KeepsOthers-from_KeepsAll}
 use Rattle.ff_io.specs.Files.{Holdings, KeepsAll, KeepsOthers}
@@ -17,7 +17,7 @@ use Rattle.ff_top.specs.Working.{Handled, Worked, IsBuilt, IsUnbuilt}
 use Rattle.ff_top.specs.declared.fault.Fault.{Fault}
 use Rattle.ff_top.specs.declared.fault.Fault.TheVariants as fault
 use Rattle.ff_top.specs.declared.run_cause.RunCause.{RunCause}
-use Rattle.ff_top.specs.declared.run_cause.RunCause.TheVariants.{Tasks, Write, Rejects, Read, Line, NoMemory}
+use Rattle.ff_top.specs.declared.run_cause.RunCause.TheVariants.{Refused, Tasks, Write, Rejects, Read, Line, NoMemory}
 use Rattle.ff_words.specs.Words.{command}
 use Rattle.ff_words.specs.declared.command.Command.{Command}
 use Rattle.ff_words.specs.declared.command.Command.TheVariants.{Run, Check}
@@ -41,19 +41,20 @@ Stored-all None kept old mid now a b = KeepsAll-trans old mid now a b
 Stored-all (Some name) kept old mid now a b = (b.0, others old mid now name a b.1)
 
 -- a run that began after its text was read is one of the whole call
-module _ (j : Job OpState) (rejects : Option (List ℕ)) (before now : Outside) (mid : Option Holdings) (n : ℕ) (kept : KeepsAll before.told mid) where
+module _ (j : Job OpState) (threads : Bool) (rejects : Option (List ℕ)) (before now : Outside) (mid : Option Holdings) (n : ℕ) (kept : KeepsAll before.told mid) where
   abbrev late : Outside
   late = record before { told = mid; files_faults = n }
 
-  stored : (why : Stop) (k : ℕ) → HasStored j rejects late now why k → HasStored j rejects before now why k
+  stored : (why : Stop) (k : ℕ) → HasStored j threads rejects late now why k → HasStored j threads rejects before now why k
   stored why k h = record {
     report = h.report;
     ran = h.ran;
     rejected = h.rejected;
     stored = Stored-all rejects h.report.kept before.told mid now.told kept h.stored;
+    work = λ by. record { starts = (h.work by).starts; worked = (h.work by).worked };
   }
 
-  pub Ran-early : (answer : Result ℕ RunCause) → Ran j rejects late now answer → Ran j rejects before now answer
+  pub Ran-early : (answer : Result ℕ RunCause) → Ran j threads rejects late now answer → Ran j threads rejects before now answer
   Ran-early (Ok k) h = stored _ k h
   Ran-early (Err (Read k)) h = stored _ k h
   Ran-early (Err (Line f k)) h = stored _ k h
@@ -65,16 +66,17 @@ module _ (j : Job OpState) (rejects : Option (List ℕ)) (before now : Outside) 
     named = h.named;
     others = others before.told mid now.told name kept h.others;
   }
+  Ran-early (Err Refused) h = (h.0, KeepsAll-trans before.told mid now.told kept h.1)
   Ran-early (Err (Tasks m)) h = (h.0, h.1, KeepsAll-trans before.told mid now.told kept h.2)
   Ran-early (Err Write) h = (h.0, KeepsAll-trans before.told mid now.told kept h.1)
   Ran-early (Err NoMemory) h = (h.0, KeepsBut-all rejects before.told mid now.told kept h.1)
 
   -- the counts, from before the text was read
   pub Counts-done : (k : ℕ) → n ≡ before.files_faults → RunCounts late now (Ok k) → Counts before now (Ok k)
-  Counts-done k same c = record { files = c.files ∙ same; input = c.input; output = c.output }
+  Counts-done k same c = record { files = c.files ∙ same; input = c.input; output = c.output; starts = c.starts }
 
   pub Counts-stopped : (cause : RunCause) → n ≡ before.files_faults → RunCounts late now (Err cause) → Counts before now (Err (fault.Run cause))
-  Counts-stopped cause same c = record { files = c.files ∙ ap (λ m. run_files m cause) same; input = c.input; output = c.output }
+  Counts-stopped cause same c = record { files = c.files ∙ ap (λ m. run_files m cause) same; input = c.input; output = c.output; starts = c.starts }
 
 -- the faults that come once a command has a network
 abbrev IsLate : Fault → Type 0

@@ -1,35 +1,41 @@
 -- How a run ends, from how its network answered and how the file for the rejected records did.
 use Rattle.std.proofs.Common.{◌≡◌, ℕ, List, [], Option, None, Some, refl, sym, ap, subst, ◌∙◌, inl, inr, append-nil}
-use Rattle.std.specs.Prelude.{◌⊎◌, Result, Ok, Err}
+use Rattle.std.specs.Prelude.{◌⊎◌, Bool, true, Result, Ok, Err}
 use Rattle.ff_rec.specs.Counts.{more}
-use Rattle.ff_rec.specs.Lines.{text}
+use Rattle.ff_rec.specs.Lines.{Rec, text}
 use Rattle.ff_io.specs.FileLaws.{KeepsOthers-from_KeepsAll}
 use Rattle.ff_io.specs.Files.{Holdings, KeepsAll}
 use Rattle.ff_net.specs.Tree.{Tree}
 use Rattle.ff_ops.specs.Operation.{OpState}
 use Rattle.ff_stream.specs.declared.ending.Report.{Report}
 use Rattle.ff_stream.specs.Jobs.{Job}
-use Rattle.ff_stream.specs.Endings.{HasRun, IsReadOut, IsCutShort, Ran as RanOver, CountsInput as CountsRead, output_count as write_count, stop_count}
+use Rattle.ff_engine.specs.Runs.{CountsNetInput, net_output_count, refused_count}
+use Rattle.ff_engine.specs.declared.fault.NetFault.{NetFault}
+use Rattle.ff_engine.specs.declared.fault.NetFault.TheVariants as net
+use Rattle.ff_stream.specs.Endings.{HasRun, IsReadOut, IsCutShort, Told, stop_count}
 use Rattle.ff_stream.specs.declared.ending.Ending.{Ending}
 use Rattle.ff_stream.specs.declared.fault.Halt.TheVariants as halt
-use Rattle.ff_stream.specs.declared.fault.RunFault.{RunFault}
 use Rattle.ff_stream.specs.declared.fault.RunFault.TheVariants as run
 use Rattle.ff_stream.specs.declared.ending.Stop.{Stop}
 use Rattle.ff_stream.specs.declared.ending.Stop.TheVariants as stop
-use Rattle.ff_top.specs.Finishing.{Closes, Finished, closing}
+use Rattle.ff_top.specs.Finishing.{Answered, Closes, Finished, closing}
 use Rattle.ff_top.specs.Outside.{Outside, StaysOrRises, count_by, streams_of}
-use Rattle.ff_top.specs.Running.{KeepsBut, Stored, Ran, CountsRun, run_output, run_job}
+use Rattle.ff_top.specs.Running.{KeepsBut, Stored, Ran, RanByThreads, CountsRun, run_output, run_refused, run_job}
 use Rattle.ff_top.specs.declared.run_cause.RunCause.{RunCause}
-use Rattle.ff_top.specs.declared.run_cause.RunCause.TheVariants.{Tasks, Write, Rejects, Read, Line, NoMemory}
+use Rattle.ff_top.specs.declared.run_cause.RunCause.TheVariants.{Refused, Tasks, Write, Rejects, Read, Line, NoMemory}
 
 -- files that were all kept
 KeepsBut-all : (rejects : Option (List ℕ)) (told now : Option Holdings) → KeepsAll told now → KeepsBut rejects told now
 KeepsBut-all None told now keeps = keeps
 KeepsBut-all (Some name) told now keeps = KeepsOthers-from_KeepsAll told now name keeps
 
-module _ (t : Tree OpState) (tasks : ℕ) (rejects : Option (List ℕ)) (before now : Outside) where
+module _ (t : Tree OpState) (tasks : ℕ) (threads : Bool) (rejects : Option (List ℕ)) (before now : Outside) where
   abbrev j : Job OpState
   j = run_job t tasks rejects
+
+  -- it ran by threads, where it was to
+  abbrev by : List Rec → Type 0
+  by xs = threads ≡ true → RanByThreads j xs before now
 
   -- a run that came to its end had read all, and written a beginning of an answer
   IsCutShort-run : (ending : Ending) → HasRun j (streams_of before now) ending
@@ -47,37 +53,39 @@ module _ (t : Tree OpState) (tasks : ℕ) (rejects : Option (List ℕ)) (before 
       }
 
   -- what was stored behind a run that stopped reading so
-  Ran-closing : (why : Stop) (report : Report) → HasRun j (streams_of before now) (record { stop = why; report = report })
-      → Stored rejects report.kept before.told now.told → Ran j rejects before now (closing why report.rejected)
-  Ran-closing stop.End report r stored = record { report = report; ran = r; rejected = refl; stored = stored }
-  Ran-closing stop.Read report r stored = record { report = report; ran = r; rejected = refl; stored = stored }
-  Ran-closing (stop.Line fault) report r stored = record { report = report; ran = r; rejected = refl; stored = stored }
+  Ran-closing : (why : Stop) (report : Report) → Told j (streams_of before now) by (record { stop = why; report = report })
+      → Stored rejects report.kept before.told now.told → Ran j threads rejects before now (closing why report.rejected)
+  Ran-closing stop.End report r stored = record { report = report; ran = r.run; rejected = refl; stored = stored; work = r.told }
+  Ran-closing stop.Read report r stored = record { report = report; ran = r.run; rejected = refl; stored = stored; work = r.told }
+  Ran-closing (stop.Line fault) report r stored = record { report = report; ran = r.run; rejected = refl; stored = stored; work = r.told }
 
   -- what was stored, lost, or stopped for want of memory behind a run
-  Ran-closed : (ending : Ending) (answer : Result ℕ RunCause) → HasRun j (streams_of before now) ending
+  Ran-closed : (ending : Ending) (answer : Result ℕ RunCause) → Told j (streams_of before now) by ending
       → now.input_faults ≡ stop_count before.input_faults ending.stop
-      → Closes rejects ending.report before.told now.told (closing ending.stop ending.report.rejected) answer → Ran j rejects before now answer
+      → Closes rejects ending.report before.told now.told (closing ending.stop ending.report.rejected) answer → Ran j threads rejects before now answer
   Ran-closed ending answer r counts closes =
-      let P : Result ℕ RunCause → Type 0 = λ a. Ran j rejects before now a in
+      let P : Result ℕ RunCause → Type 0 = λ a. Ran j threads rejects before now a in
       elim closes [
         | inl closed ↦ subst P (sym closed.0) (Ran-closing ending.stop ending.report r closed.1)
         | inr other ↦ elim other [
           | inl failed ↦ subst P (sym failed.is)
-              (record { ending = ending; ran = r; reading = counts; rejected = refl; named = failed.named; others = failed.others })
-          | inr short ↦ subst P (sym short.0) (IsCutShort-run ending r counts, short.1)
+              (record { ending = ending; ran = r.run; reading = counts; rejected = refl; named = failed.named; others = failed.others })
+          | inr short ↦ subst P (sym short.0) (IsCutShort-run ending r.run counts, short.1)
         ]
       ]
 
-  pub Ran-finished : (over : Result Ending RunFault) (answer : Result ℕ RunCause) → RanOver j (streams_of before now) over
-      → CountsRead before.input_faults now.input_faults over → Finished tasks rejects over before.told now.told answer
-      → Ran j rejects before now answer
+  pub Ran-finished : (over : Result Ending NetFault) (answer : Result ℕ RunCause) → Answered j threads before now over
+      → CountsNetInput before.input_faults now.input_faults over → Finished tasks rejects over before.told now.told answer
+      → Ran j threads rejects before now answer
   Ran-finished (Ok ending) answer r counts finished = Ran-closed ending answer r counts finished
-  Ran-finished (Err run.Tasks) answer r counts finished =
-      subst (λ (a : Result ℕ RunCause). Ran j rejects before now a) (sym finished.0) (refl, r, finished.1)
-  Ran-finished (Err run.Write) answer r counts finished =
-      subst (λ (a : Result ℕ RunCause). Ran j rejects before now a) (sym finished.0) (r, finished.1)
-  Ran-finished (Err run.NoMemory) answer r counts finished =
-      subst (λ (a : Result ℕ RunCause). Ran j rejects before now a) (sym finished.0) (r, KeepsBut-all rejects before.told now.told finished.1)
+  Ran-finished (Err net.Refused) answer r counts finished =
+      subst (λ (a : Result ℕ RunCause). Ran j threads rejects before now a) (sym finished.0) (r, finished.1)
+  Ran-finished (Err (net.Run run.Tasks)) answer r counts finished =
+      subst (λ (a : Result ℕ RunCause). Ran j threads rejects before now a) (sym finished.0) (refl, r, finished.1)
+  Ran-finished (Err (net.Run run.Write)) answer r counts finished =
+      subst (λ (a : Result ℕ RunCause). Ran j threads rejects before now a) (sym finished.0) (r, finished.1)
+  Ran-finished (Err (net.Run run.NoMemory)) answer r counts finished =
+      subst (λ (a : Result ℕ RunCause). Ran j threads rejects before now a) (sym finished.0) (r, KeepsBut-all rejects before.told now.told finished.1)
 
 -- a count of the input's faults where reading stopped so
 StaysOrRises-stop : (why : Stop) (before now : ℕ) → now ≡ stop_count before why → StaysOrRises before now
@@ -95,8 +103,13 @@ output-closing stop.End k n = refl
 output-closing stop.Read k n = refl
 output-closing (stop.Line fault) k n = refl
 
+refused-closing : (why : Stop) (k n : ℕ) → n ≡ count_by run_refused n (closing why k)
+refused-closing stop.End k n = refl
+refused-closing stop.Read k n = refl
+refused-closing (stop.Line fault) k n = refl
+
 module _ (tasks : ℕ) (rejects : Option (List ℕ)) (told told_now : Option Holdings) (before now : ℕ) where
-  pub CountsRun-finished : (over : Result Ending RunFault) (answer : Result ℕ RunCause) → CountsRead before now over
+  pub CountsRun-finished : (over : Result Ending NetFault) (answer : Result ℕ RunCause) → CountsNetInput before now over
       → Finished tasks rejects over told told_now answer → CountsRun before now answer
   CountsRun-finished (Ok ending) answer counts finished = elim finished [
     | inl closed ↦ subst (λ (a : Result ℕ RunCause). CountsRun before now a) (sym closed.0)
@@ -106,13 +119,14 @@ module _ (tasks : ℕ) (rejects : Option (List ℕ)) (told told_now : Option Hol
       | inr short ↦ subst (λ (a : Result ℕ RunCause). CountsRun before now a) (sym short.0) (StaysOrRises-stop ending.stop before now counts)
     ]
   ]
-  CountsRun-finished (Err run.Tasks) answer counts finished = subst (λ (a : Result ℕ RunCause). CountsRun before now a) (sym finished.0) counts
-  CountsRun-finished (Err run.Write) answer counts finished = subst (λ (a : Result ℕ RunCause). CountsRun before now a) (sym finished.0) counts
-  CountsRun-finished (Err run.NoMemory) answer counts finished = subst (λ (a : Result ℕ RunCause). CountsRun before now a) (sym finished.0) counts
+  CountsRun-finished (Err net.Refused) answer counts finished = subst (λ (a : Result ℕ RunCause). CountsRun before now a) (sym finished.0) counts
+  CountsRun-finished (Err (net.Run run.Tasks)) answer counts finished = subst (λ (a : Result ℕ RunCause). CountsRun before now a) (sym finished.0) counts
+  CountsRun-finished (Err (net.Run run.Write)) answer counts finished = subst (λ (a : Result ℕ RunCause). CountsRun before now a) (sym finished.0) counts
+  CountsRun-finished (Err (net.Run run.NoMemory)) answer counts finished = subst (λ (a : Result ℕ RunCause). CountsRun before now a) (sym finished.0) counts
 
   -- only a write that failed raised the count of the output's faults
-  pub output-finished : (over : Result Ending RunFault) (answer : Result ℕ RunCause) → Finished tasks rejects over told told_now answer
-      → write_count before over ≡ count_by run_output before answer
+  pub output-finished : (over : Result Ending NetFault) (answer : Result ℕ RunCause) → Finished tasks rejects over told told_now answer
+      → net_output_count before over ≡ count_by run_output before answer
   output-finished (Ok ending) answer finished = elim finished [
     | inl closed ↦ output-closing ending.stop ending.report.rejected before ∙ ap (λ (a : Result ℕ RunCause). count_by run_output before a) (sym closed.0)
     | inr other ↦ elim other [
@@ -120,6 +134,22 @@ module _ (tasks : ℕ) (rejects : Option (List ℕ)) (told told_now : Option Hol
       | inr short ↦ ap (λ (a : Result ℕ RunCause). count_by run_output before a) (sym short.0)
     ]
   ]
-  output-finished (Err run.Tasks) answer finished = ap (λ (a : Result ℕ RunCause). count_by run_output before a) (sym finished.0)
-  output-finished (Err run.Write) answer finished = ap (λ (a : Result ℕ RunCause). count_by run_output before a) (sym finished.0)
-  output-finished (Err run.NoMemory) answer finished = ap (λ (a : Result ℕ RunCause). count_by run_output before a) (sym finished.0)
+  output-finished (Err net.Refused) answer finished = ap (λ (a : Result ℕ RunCause). count_by run_output before a) (sym finished.0)
+  output-finished (Err (net.Run run.Tasks)) answer finished = ap (λ (a : Result ℕ RunCause). count_by run_output before a) (sym finished.0)
+  output-finished (Err (net.Run run.Write)) answer finished = ap (λ (a : Result ℕ RunCause). count_by run_output before a) (sym finished.0)
+  output-finished (Err (net.Run run.NoMemory)) answer finished = ap (λ (a : Result ℕ RunCause). count_by run_output before a) (sym finished.0)
+
+  -- only a start that was refused raised the count of these
+  pub refused-finished : (over : Result Ending NetFault) (answer : Result ℕ RunCause) → Finished tasks rejects over told told_now answer
+      → refused_count before over ≡ count_by run_refused before answer
+  refused-finished (Ok ending) answer finished = elim finished [
+    | inl closed ↦ refused-closing ending.stop ending.report.rejected before ∙ ap (λ (a : Result ℕ RunCause). count_by run_refused before a) (sym closed.0)
+    | inr other ↦ elim other [
+      | inl failed ↦ ap (λ (a : Result ℕ RunCause). count_by run_refused before a) (sym failed.is)
+      | inr short ↦ ap (λ (a : Result ℕ RunCause). count_by run_refused before a) (sym short.0)
+    ]
+  ]
+  refused-finished (Err net.Refused) answer finished = ap (λ (a : Result ℕ RunCause). count_by run_refused before a) (sym finished.0)
+  refused-finished (Err (net.Run run.Tasks)) answer finished = ap (λ (a : Result ℕ RunCause). count_by run_refused before a) (sym finished.0)
+  refused-finished (Err (net.Run run.Write)) answer finished = ap (λ (a : Result ℕ RunCause). count_by run_refused before a) (sym finished.0)
+  refused-finished (Err (net.Run run.NoMemory)) answer finished = ap (λ (a : Result ℕ RunCause). count_by run_refused before a) (sym finished.0)

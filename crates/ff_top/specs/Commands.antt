@@ -1,12 +1,12 @@
 -- What each command does with the text that it is given. Commands without a row of their own aren't built, and do nothing.
-use Rattle.std.specs.Prelude.{◌≡◌, ℕ, ◌⊎◌, true, List, Option, None, Some, IsSome, IsSomeAnd, Result, Ok, Err}
+use Rattle.std.specs.Prelude.{◌≡◌, ℕ, ◌⊎◌, Bool, true, List, Option, None, Some, IsSome, IsSomeAnd, Result, Ok, Err}
 use Rattle.ff_net.specs.Meaning.{Fine}
 use Rattle.ff_net.specs.Tree.{Tree}
 use Rattle.ff_net.specs.Versions.{limit_by, seen_by}
 use Rattle.ff_ops.specs.Operation.{OpState, op_node}
 use Rattle.ff_top.specs.Checking.{Printed}
 use Rattle.ff_top.specs.Outside.{Outside, IsUntouched}
-use Rattle.ff_top.specs.Running.{Ran, run_job}
+use Rattle.ff_top.specs.Running.{Ran, by_threads, run_job}
 use Rattle.ff_top.specs.Texts.{IsGiven, IsGivenFault, version}
 use Rattle.ff_top.specs.declared.fault.Fault.{Fault}
 use Rattle.ff_top.specs.declared.fault.Fault.TheVariants as fault
@@ -21,12 +21,13 @@ given_to (Check given) = Some given
 given_to _ = None
 
 -- `run` answers as the run of the network ends
-abbrev pub RunDone : ℕ → Option (List ℕ)
+abbrev pub RunDone : ℕ → Bool → Option (List ℕ)
     → Tree OpState → Outside → Outside → Result ℕ Fault → Type 0
-RunDone tasks rejects t before now (Ok n) = Ran (run_job t tasks rejects) rejects before now (Ok n)
-RunDone tasks rejects t before now (Err (fault.Run cause)) =
-    Ran (run_job t tasks rejects) rejects before now (Err cause)
-RunDone tasks rejects t before now (Err _) = ⊥
+RunDone tasks one rejects t before now (Ok n) =
+    Ran (run_job t tasks rejects) (by_threads one t) rejects before now (Ok n)
+RunDone tasks one rejects t before now (Err (fault.Run cause)) =
+    Ran (run_job t tasks rejects) (by_threads one t) rejects before now (Err cause)
+RunDone tasks one rejects t before now (Err _) = ⊥
 
 -- `check` answers as the print of the network ends
 abbrev pub CheckDone : Tree OpState → Outside → Outside → Result ℕ Fault → Type 0
@@ -37,7 +38,7 @@ CheckDone t before now (Err _) = ⊥
 -- what a command does with the network that it is given
 abbrev pub DoneWith : Command → Tree OpState → Outside → Outside → Result ℕ Fault → Type 0
 DoneWith (Run given cap queue tasks one rejects) t before now answer =
-    RunDone tasks rejects t before now answer
+    RunDone tasks one rejects t before now answer
 DoneWith (Check given) t before now answer = CheckDone t before now answer
 DoneWith _ t before now answer = ⊥
 

@@ -6,7 +6,7 @@ use Rattle.ff_top.specs.Checking.{check_output}
 use Rattle.ff_top.specs.Commands.{DoneWith, given_to, IsInLimits, IsBeyond}
 use Rattle.ff_top.specs.Messages.{said, status_of, Tells}
 use Rattle.ff_top.specs.Outside.{Outside, World, IsUntouched, IsQuiet}
-use Rattle.ff_top.specs.Running.{run_files, run_output, RunInput}
+use Rattle.ff_top.specs.Running.{run_files, run_output, run_refused, RunInput}
 use Rattle.ff_top.specs.Texts.{IsKnown, IsGiven, IsGivenFault, IsSpelled, KeepsRules, given_files}
 use Rattle.ff_top.specs.declared.fault.Fault.{Fault}
 use Rattle.ff_top.specs.declared.fault.Fault.TheVariants.{Words, NotBuilt, Given, Run, Check}
@@ -51,7 +51,8 @@ Comes words before now (Err (Given fault)) =
 Comes words before now (Err (Run fault)) = Did words before now (Err (Run fault))
 Comes words before now (Err (Check fault)) = Did words before now (Err (Check fault))
 
--- the counts of the files' and the output's faults after this answer: one more of what failed, and else the same
+-- the counts of the files' and the output's faults and of refused starts after this answer: one more of what failed, and else
+-- the same
 abbrev pub files_count : {A : Type 0} → ℕ → Result A Fault → ℕ
 files_count n (Err (Given fault)) = given_files n fault
 files_count n (Err (Run fault)) = run_files n fault
@@ -61,6 +62,10 @@ abbrev pub output_count : {A : Type 0} → ℕ → Result A Fault → ℕ
 output_count n (Err (Run fault)) = run_output n fault
 output_count n (Err (Check fault)) = check_output n fault
 output_count n _ = n
+
+abbrev pub refused_count : {A : Type 0} → ℕ → Result A Fault → ℕ
+refused_count n (Err (Run fault)) = run_refused n fault
+refused_count n _ = n
 
 -- how the count of the input's faults went at this answer
 abbrev pub CountsInput : {A : Type 0} → ℕ → ℕ → Result A Fault → Type 0
@@ -72,6 +77,7 @@ pub record Counts (before now : Outside) (answer : Result ℕ Fault) : Type 0 wh
   pub files : now.files_faults ≡ files_count before.files_faults answer
   pub input : CountsInput before.input_faults now.input_faults answer
   pub output : now.output_faults ≡ output_count before.output_faults answer
+  pub starts : now.refused ≡ refused_count before.refused answer
 
 -- How a call ended: its answer has this status and comes as it may, the counts are as it says, and it was told.
 pub record Ended (status : ℕ) (words : List (List ℕ)) (before now : World) : Type 0 where

@@ -1,15 +1,21 @@
 -- How a run is finished, whose network answered.
-use Rattle.std.specs.Prelude.{◌≡◌, ℕ, ◌⊎◌, List, Option, Some, Result, Ok, Err}
+use Rattle.std.specs.Prelude.{◌≡◌, ℕ, ◌⊎◌, Bool, true, List, Option, Some, Result, Ok, Err}
 use Rattle.ff_io.specs.Files.{Holdings, KeepsAll, KeepsOthers}
 use Rattle.ff_stream.specs.declared.ending.Report.{Report}
 use Rattle.ff_stream.specs.declared.ending.Ending.{Ending}
-use Rattle.ff_stream.specs.declared.fault.RunFault.{RunFault}
+use Rattle.ff_engine.specs.declared.fault.NetFault.{NetFault}
+use Rattle.ff_engine.specs.declared.fault.NetFault.TheVariants as net
 use Rattle.ff_stream.specs.declared.fault.RunFault.TheVariants as run
 use Rattle.ff_stream.specs.declared.ending.Stop.{Stop}
 use Rattle.ff_stream.specs.declared.ending.Stop.TheVariants as stop
-use Rattle.ff_top.specs.Running.{KeepsBut, Stored}
+use Rattle.ff_engine.specs.Runs.{NetRan}
+use Rattle.ff_ops.specs.Operation.{OpState}
+use Rattle.ff_stream.specs.Endings.{Told}
+use Rattle.ff_stream.specs.Jobs.{Job}
+use Rattle.ff_top.specs.Outside.{Outside, streams_of}
+use Rattle.ff_top.specs.Running.{KeepsBut, RanByThreads, Stored}
 use Rattle.ff_top.specs.declared.run_cause.RunCause.{RunCause}
-use Rattle.ff_top.specs.declared.run_cause.RunCause.TheVariants.{Tasks, Write, Rejects, Read, Line, NoMemory}
+use Rattle.ff_top.specs.declared.run_cause.RunCause.TheVariants.{Refused, Tasks, Write, Rejects, Read, Line, NoMemory}
 
 -- when a file for the rejected records, of which there were `count`, isn't stored
 abbrev pub IsStoreFault : Option (List ℕ) → ℕ → RunCause → Type 0
@@ -38,10 +44,17 @@ closing stop.End n = Ok n
 closing stop.Read n = Err (Read n)
 closing (stop.Line fault) n = Err (Line fault n)
 
+-- how the network answered, and that it ran by threads, where it was to
+abbrev pub Answered : Job OpState → Bool → Outside → Outside → Result Ending NetFault → Type 0
+Answered j threads before now (Ok ending) =
+    Told j (streams_of before now) (λ xs. threads ≡ true → RanByThreads j xs before now) ending
+Answered j threads before now (Err fault) = NetRan j (streams_of before now) (Err fault)
+
 -- by the answer of the network
-abbrev pub Finished : ℕ → Option (List ℕ) → Result Ending RunFault → Option Holdings → Option Holdings → Result ℕ RunCause → Type 0
+abbrev pub Finished : ℕ → Option (List ℕ) → Result Ending NetFault → Option Holdings → Option Holdings → Result ℕ RunCause → Type 0
 Finished tasks rejects (Ok ending) told now answer =
     Closes rejects ending.report told now (closing ending.stop ending.report.rejected) answer
-Finished tasks rejects (Err run.Tasks) told now answer = (answer ≡ Err (Tasks tasks)) × KeepsAll told now
-Finished tasks rejects (Err run.Write) told now answer = (answer ≡ Err Write) × KeepsAll told now
-Finished tasks rejects (Err run.NoMemory) told now answer = (answer ≡ Err NoMemory) × KeepsAll told now
+Finished tasks rejects (Err net.Refused) told now answer = (answer ≡ Err Refused) × KeepsAll told now
+Finished tasks rejects (Err (net.Run run.Tasks)) told now answer = (answer ≡ Err (Tasks tasks)) × KeepsAll told now
+Finished tasks rejects (Err (net.Run run.Write)) told now answer = (answer ≡ Err Write) × KeepsAll told now
+Finished tasks rejects (Err (net.Run run.NoMemory)) told now answer = (answer ≡ Err NoMemory) × KeepsAll told now

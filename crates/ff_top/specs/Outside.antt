@@ -1,4 +1,4 @@
--- What a call meets of the outside: files, input, output and the sink of messages.
+-- What a call meets of the outside: files, input, output, threads and the sink of messages.
 use Rattle.std.specs.Prelude.{◌≡◌, ℕ, ◌⊎◌, Bool, List, Option, Result, Ok, Err}
 use Rattle.std.specs.Io.KnownBytes.{Keeps}
 use Rattle.ff_rec.specs.Counts.{more, Rose}
@@ -6,7 +6,8 @@ use Rattle.ff_io.specs.Files.{Holdings, KeepsAll}
 use Rattle.ff_stream.specs.Streams.{Streams}
 
 -- What the files hold, the bytes that are left to read and whether the last read told the end, the bytes that the output took,
--- and for each of the three how often it failed.
+-- and for each of the three how often it failed. Of threads: how many starts were refused, how many were made, and how many
+-- messages those that ended had handled.
 pub record Outside : Type 0 where
   pub told : Option Holdings
   pub files_faults : ℕ
@@ -15,11 +16,14 @@ pub record Outside : Type 0 where
   pub input_faults : ℕ
   pub taken : Option (List ℕ)
   pub output_faults : ℕ
+  pub refused : ℕ
+  pub starts : ℕ
+  pub worked : ℕ
 
 -- what these devices tell
-abbrev pub outside_of : {F I O : Type 0} → (F → Option Holdings) → (F → ℕ) → (I → Option (List ℕ)) → (I → Bool) → (I → ℕ)
-    → (O → Option (List ℕ)) → (O → ℕ) → F → I → O → Outside
-outside_of told files_faults left ended input_faults taken output_faults files input out = record {
+abbrev pub outside_of : {F I O S : Type 0} → (F → Option Holdings) → (F → ℕ) → (I → Option (List ℕ)) → (I → Bool) → (I → ℕ)
+    → (O → Option (List ℕ)) → (O → ℕ) → (S → ℕ) → (S → ℕ) → (S → ℕ) → F → I → O → S → Outside
+outside_of told files_faults left ended input_faults taken output_faults refused starts worked files input out spawner = record {
   told = told files;
   files_faults = files_faults files;
   left = left input;
@@ -27,6 +31,9 @@ outside_of told files_faults left ended input_faults taken output_faults files i
   input_faults = input_faults input;
   taken = taken out;
   output_faults = output_faults out;
+  refused = refused spawner;
+  starts = starts spawner;
+  worked = worked spawner;
 }
 
 -- this, with the bytes that the sink of messages took, and how often it failed
@@ -53,11 +60,12 @@ pub record IsUntouched (before now : Outside) : Type 0 where
   pub taken : Keeps before.taken now.taken
   pub files : KeepsAll before.told now.told
 
--- no count of faults rose
+-- no count of faults rose, and no start was refused more
 pub record IsQuiet (before now : Outside) : Type 0 where
   pub files : Rose before.files_faults now.files_faults → ⊥
   pub input : Rose before.input_faults now.input_faults → ⊥
   pub output : Rose before.output_faults now.output_faults → ⊥
+  pub starts : Rose before.refused now.refused → ⊥
 
 -- a count of faults is the same, or one more where the device failed and something else came of it
 abbrev pub StaysOrRises : ℕ → ℕ → Type 0

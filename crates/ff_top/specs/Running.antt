@@ -1,13 +1,17 @@
 -- What the command `run` does with a network, at each of its answers.
-use Rattle.std.specs.Prelude.{◌≡◌, ℕ, is_some, List, Option, None, Some, Result, Ok, Err}
+use Rattle.std.specs.Prelude.{◌≡◌, ℕ, ◌+◌, Bool, true, not, ◌&&◌, is_some, List, length, Option, None, Some, Result, Ok, Err}
 use Rattle.ff_rec.specs.Counts.{more}
 use Rattle.ff_rec.specs.Lines.{Rec, text}
 use Rattle.ff_io.specs.Files.{Holdings, HoldsBytes, KeepsAll, KeepsOthers}
+use Rattle.ff_net.specs.Counts.{units}
+use Rattle.ff_net.specs.Forms.{has_copies}
 use Rattle.ff_net.specs.Tree.{Tree}
 use Rattle.ff_ops.specs.Operation.{OpState, op_node}
+use Rattle.ff_spawn.specs.Counts.{RoseBy}
 use Rattle.ff_stream.specs.declared.ending.Report.{Report}
 use Rattle.ff_stream.specs.Jobs.{Job, job}
-use Rattle.ff_stream.specs.Endings.{HasRun, IsCutShort, IsOverrun, stop_count}
+use Rattle.ff_engine.specs.Runs.{IsUntouched}
+use Rattle.ff_stream.specs.Endings.{HasRun, IsCutShort, IsOverrun, records_of, stop_count}
 use Rattle.ff_stream.specs.declared.ending.Ending.{Ending}
 use Rattle.ff_stream.specs.declared.fault.Halt.TheVariants as halt
 use Rattle.ff_stream.specs.declared.ending.Stop.{Stop}
@@ -15,7 +19,7 @@ use Rattle.ff_stream.specs.declared.ending.Stop.TheVariants as stop
 use Rattle.ff_top.specs.Outside.{Outside, StaysOrRises, count_by, streams_of}
 use Rattle.ff_top.specs.Texts.{version}
 use Rattle.ff_top.specs.declared.run_cause.RunCause.{RunCause}
-use Rattle.ff_top.specs.declared.run_cause.RunCause.TheVariants.{Tasks, Write, Rejects, Read, Line, NoMemory}
+use Rattle.ff_top.specs.declared.run_cause.RunCause.TheVariants.{Refused, Tasks, Write, Rejects, Read, Line, NoMemory}
 
 -- the job of a network that is run: with a name for the rejected records, these are kept
 abbrev pub run_job : Tree OpState → ℕ → Option (List ℕ) → Job OpState
@@ -31,12 +35,22 @@ abbrev pub Stored : Option (List ℕ) → List Rec → Option Holdings → Optio
 Stored None kept told now = KeepsAll told now
 Stored (Some name) kept told now = HoldsBytes now name (text kept) × KeepsOthers told now name
 
+-- a network is run by threads unless the words ask for one thread, or copies of a part stand in it
+abbrev pub by_threads : Bool → Tree OpState → Bool
+by_threads one t = not one && not (has_copies t)
+
+-- for each unit a thread was started, and the threads handled each record and an end for each unit
+pub record RanByThreads (j : Job OpState) (xs : List Rec) (before now : Outside) : Type 0 where
+  pub starts : RoseBy (units j.net) before.starts now.starts
+  pub worked : RoseBy (units j.net + length xs) before.worked now.worked
+
 -- The network ran, and stopped reading so. So many records were rejected, and these are stored where a file is given for them.
-pub record HasStored (j : Job OpState) (rejects : Option (List ℕ)) (before now : Outside) (why : Stop) (count : ℕ) : Type 0 where
+pub record HasStored (j : Job OpState) (threads : Bool) (rejects : Option (List ℕ)) (before now : Outside) (why : Stop) (count : ℕ) : Type 0 where
   pub report : Report
   pub ran : HasRun j (streams_of before now) (record { stop = why; report = report })
   pub rejected : count ≡ report.rejected
   pub stored : Stored rejects report.kept before.told now.told
+  pub work : threads ≡ true → RanByThreads j (records_of j (streams_of before now) ran.got) before now
 
 -- the network ran, and then the file for the rejected records couldn't be written
 pub record HasLost (j : Job OpState) (rejects : Option (List ℕ)) (before now : Outside) (name : List ℕ) (count : ℕ) : Type 0 where
@@ -48,19 +62,21 @@ pub record HasLost (j : Job OpState) (rejects : Option (List ℕ)) (before now :
   pub others : KeepsOthers before.told now.told name
 
 -- how the run of a network ends
-abbrev pub Ran : Job OpState → Option (List ℕ) → Outside → Outside → Result ℕ RunCause → Type 0
-Ran j rejects before now (Ok n) = HasStored j rejects before now stop.End n
-Ran j rejects before now (Err (Read n)) = HasStored j rejects before now stop.Read n
-Ran j rejects before now (Err (Line fault n)) = HasStored j rejects before now (stop.Line fault) n
-Ran j rejects before now (Err (Rejects name n)) = HasLost j rejects before now name n
-Ran j rejects before now (Err (Tasks m)) =
+abbrev pub Ran : Job OpState → Bool → Option (List ℕ) → Outside → Outside → Result ℕ RunCause → Type 0
+Ran j threads rejects before now (Ok n) = HasStored j threads rejects before now stop.End n
+Ran j threads rejects before now (Err (Read n)) = HasStored j threads rejects before now stop.Read n
+Ran j threads rejects before now (Err (Line fault n)) = HasStored j threads rejects before now (stop.Line fault) n
+Ran j threads rejects before now (Err (Rejects name n)) = HasLost j rejects before now name n
+Ran j threads rejects before now (Err Refused) =
+    IsUntouched (streams_of before now) × KeepsAll before.told now.told
+Ran j threads rejects before now (Err (Tasks m)) =
     (m ≡ j.tasks) × IsOverrun j (streams_of before now) × KeepsAll before.told now.told
-Ran j rejects before now (Err Write) =
+Ran j threads rejects before now (Err Write) =
     IsCutShort j (streams_of before now) halt.Write × KeepsAll before.told now.told
-Ran j rejects before now (Err NoMemory) =
+Ran j threads rejects before now (Err NoMemory) =
     IsCutShort j (streams_of before now) halt.NoMemory × KeepsBut rejects before.told now.told
 
--- how often the files had failed, and the output, after a run that ended so
+-- how often the files had failed, the output, and starts were refused, after a run that ended so
 abbrev pub run_files : ℕ → RunCause → ℕ
 run_files n (Rejects name k) = more n
 run_files n _ = n
@@ -69,11 +85,16 @@ abbrev pub run_output : ℕ → RunCause → ℕ
 run_output n Write = more n
 run_output n _ = n
 
+abbrev pub run_refused : ℕ → RunCause → ℕ
+run_refused n Refused = more n
+run_refused n _ = n
+
 -- how the count of the input's faults went: behind a read that failed a wrap may still be over its limit, and the output, the
 -- file for the rejected records or memory may still fail
 abbrev pub RunInput : ℕ → ℕ → RunCause → Type 0
 RunInput before now (Read k) = now ≡ more before
 RunInput before now (Line fault k) = now ≡ before
+RunInput before now Refused = now ≡ before
 RunInput before now _ = StaysOrRises before now
 
 abbrev pub CountsRun : ℕ → ℕ → Result ℕ RunCause → Type 0
@@ -85,3 +106,4 @@ pub record RunCounts (before now : Outside) (answer : Result ℕ RunCause) : Typ
   pub files : now.files_faults ≡ count_by run_files before.files_faults answer
   pub input : CountsRun before.input_faults now.input_faults answer
   pub output : now.output_faults ≡ count_by run_output before.output_faults answer
+  pub starts : now.refused ≡ count_by run_refused before.refused answer

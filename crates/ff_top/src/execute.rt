@@ -10,68 +10,108 @@ use crate::devices::{Devices, Seen};
 use crate::fault::Fault;
 use crate::given::read_given;
 use crate::run::{Order, run};
+use ff_engine::NetJob;
 use ff_io::{Files, Sink, Source};
+use ff_node::Comb;
+use ff_ops::Op;
+use ff_spawn::{Refusals, Spawner};
+use ff_unit::Stage;
 use ff_words::{Command, Given, read_command};
 use std::alloc::Global;
+use std::sync::Wait;
 
 /// Does what the words say. The answer is how many records were rejected. Nothing is told of it.
-pub fn execute<F: Files, I: Source, O: Sink, E: Sink>(
+pub fn execute<
+    F: Files,
+    I: Source,
+    O: Sink,
+    E: Sink,
+    R: Wait + Clone + Drop + Send + 'static,
+    S: Spawner<NetJob<Stage<Comb<Op>>, R>>,
+>(
+    rt: &R,
     alloc: Global,
     words: &[String],
-    devices: &mut Devices<F, I, O, E>,
+    devices: &mut Devices<F, I, O, E, S>,
 ) -> Result<u64, Fault>
-    ensures comes { let seen = ⟦<Devices<F, I, O, E> as Seen>⟧.outside in
+    ensures comes { let seen = ⟦<Devices<F, I, O, E, S> as Seen>⟧.outside in
         Comes (texts words.now) (seen devices.old) (seen devices.new) result }
-    ensures counts { let seen = ⟦<Devices<F, I, O, E> as Seen>⟧.outside in
+    ensures counts { let seen = ⟦<Devices<F, I, O, E, S> as Seen>⟧.outside in
         Counts (seen devices.old) (seen devices.new) result }
     ensures err { devices.new.err ≡ devices.old.err }
 {
     match read_command(alloc, words) {
-        Ok(job) => work(alloc, job, devices),
+        Ok(job) => work(rt, alloc, job, devices),
         Err(fault) => Err(Fault::Words(fault)),
     }
 }
 
 // Does what a command says.
-fn work<F: Files, I: Source, O: Sink, E: Sink>(
+fn work<
+    F: Files,
+    I: Source,
+    O: Sink,
+    E: Sink,
+    R: Wait + Clone + Drop + Send + 'static,
+    S: Spawner<NetJob<Stage<Comb<Op>>, R>>,
+>(
+    rt: &R,
     alloc: Global,
     job: Command,
-    devices: &mut Devices<F, I, O, E>,
+    devices: &mut Devices<F, I, O, E, S>,
 ) -> Result<u64, Fault>
-    ensures worked { let seen = ⟦<Devices<F, I, O, E> as Seen>⟧.outside in
+    ensures worked { let seen = ⟦<Devices<F, I, O, E, S> as Seen>⟧.outside in
         Worked job (seen devices.old) (seen devices.new) result }
-    ensures counts { let seen = ⟦<Devices<F, I, O, E> as Seen>⟧.outside in
+    ensures counts { let seen = ⟦<Devices<F, I, O, E, S> as Seen>⟧.outside in
         Counts (seen devices.old) (seen devices.new) result }
     ensures err { devices.new.err ≡ devices.old.err }
 {
     match job {
         Command::Run {
             given,
+            cap,
             tasks,
+            one,
             rejects,
             ..
-        } => run_given(alloc, given, Order { tasks, rejects }, devices),
+        } => {
+            let order = Order {
+                cap,
+                tasks,
+                one,
+                rejects,
+            };
+            run_given(rt, alloc, given, order, devices)
+        }
         Command::Check { given } => check_given(alloc, given, devices),
         _ => Err(Fault::NotBuilt),
     }
 }
 
 // Runs the network that is given.
-fn run_given<F: Files, I: Source, O: Sink, E: Sink>(
+fn run_given<
+    F: Files,
+    I: Source,
+    O: Sink,
+    E: Sink,
+    R: Wait + Clone + Drop + Send + 'static,
+    S: Spawner<NetJob<Stage<Comb<Op>>, R>>,
+>(
+    rt: &R,
     alloc: Global,
     given: Given,
     order: Order,
-    devices: &mut Devices<F, I, O, E>,
+    devices: &mut Devices<F, I, O, E, S>,
 ) -> Result<u64, Fault>
-    ensures handled { let seen = ⟦<Devices<F, I, O, E> as Seen>⟧.outside in
-        Handled given (RunDone order.tasks order.rejects)
+    ensures handled { let seen = ⟦<Devices<F, I, O, E, S> as Seen>⟧.outside in
+        Handled given (RunDone order.tasks order.one order.rejects)
         (seen devices.old) (seen devices.new) result }
-    ensures counts { let seen = ⟦<Devices<F, I, O, E> as Seen>⟧.outside in
+    ensures counts { let seen = ⟦<Devices<F, I, O, E, S> as Seen>⟧.outside in
         Counts (seen devices.old) (seen devices.new) result }
     ensures err { devices.new.err ≡ devices.old.err }
 {
     match read_given(alloc, &mut devices.files, given) {
-        Ok(checked) => match run(alloc, &checked, order, devices) {
+        Ok(checked) => match run(rt, alloc, &checked, order, devices) {
             Ok(rejected) => Ok(rejected),
             Err(cause) => Err(Fault::Run(cause)),
         },
@@ -80,14 +120,14 @@ fn run_given<F: Files, I: Source, O: Sink, E: Sink>(
 }
 
 // Prints the network that is given.
-fn check_given<F: Files, I: Source, O: Sink, E: Sink>(
+fn check_given<F: Files, I: Source, O: Sink, E: Sink, S: Refusals>(
     alloc: Global,
     given: Given,
-    devices: &mut Devices<F, I, O, E>,
+    devices: &mut Devices<F, I, O, E, S>,
 ) -> Result<u64, Fault>
-    ensures handled { let seen = ⟦<Devices<F, I, O, E> as Seen>⟧.outside in
+    ensures handled { let seen = ⟦<Devices<F, I, O, E, S> as Seen>⟧.outside in
         Handled given CheckDone (seen devices.old) (seen devices.new) result }
-    ensures counts { let seen = ⟦<Devices<F, I, O, E> as Seen>⟧.outside in
+    ensures counts { let seen = ⟦<Devices<F, I, O, E, S> as Seen>⟧.outside in
         Counts (seen devices.old) (seen devices.new) result }
     ensures err { devices.new.err ≡ devices.old.err }
 {

@@ -1,55 +1,108 @@
 // The command `run`: a network over the records of the input.
 ghost use Rattle.std.specs.Prelude.{◌≡◌};
 ghost use Rattle.ff_net.specs.Tree.{tree_of};
-ghost use Rattle.ff_top.specs.Finishing.{closing, Finished};
+ghost use Rattle.ff_engine.specs.Runs.{CountsNetInput, net_output_count, refused_count};
+ghost use Rattle.ff_top.specs.Finishing.{Answered, closing, Finished};
 ghost use Rattle.ff_top.specs.Outside.{count_by};
-ghost use Rattle.ff_top.specs.Running.{Ran, RunCounts, run_files, run_job};
+ghost use Rattle.ff_top.specs.Running.{Ran, RunCounts, by_threads, run_files, run_job};
 ghost use Rattle.ff_top.specs.Texts.{version};
 
 use crate::devices::{Devices, Seen};
 use crate::rejects::store_rejects;
 use crate::run_cause::RunCause;
+use ff_engine::{NetFault, NetJob, run_net, runs};
 use ff_io::{Files, Sink, Source};
 use ff_net::Checked;
+use ff_node::Comb;
 use ff_ops::Op;
 use ff_single::{Ending, RunFault, Stop, run_single};
+use ff_spawn::Spawner;
+use ff_unit::Stage;
 use ff_words::Text;
 use std::alloc::Global;
+use std::sync::Wait;
 
 /// How a network is to be run.
 #[derive(Drop)]
 pub struct Order {
+    /// How many messages a ring between two threads holds.
+    pub cap: u32,
     /// The most tasks of a wrap.
     pub tasks: u64,
+    /// Whether the calling thread does all the work.
+    pub one: bool,
     /// The file for the rejected records.
     pub rejects: Option<Text>,
 }
 
 /// Runs a network. The answer is how many records its nodes rejected.
-pub fn run<F: Files, I: Source, O: Sink, E: Sink>(
+pub fn run<
+    F: Files,
+    I: Source,
+    O: Sink,
+    E: Sink,
+    R: Wait + Clone + Drop + Send + 'static,
+    S: Spawner<NetJob<Stage<Comb<Op>>, R>>,
+>(
+    rt: &R,
     alloc: Global,
     checked: &Checked<Op>,
     order: Order,
-    devices: &mut Devices<F, I, O, E>,
+    devices: &mut Devices<F, I, O, E, S>,
 ) -> Result<u64, RunCause>
     requires { checked.now.version ≡ version }
-    ensures ran { let seen = ⟦<Devices<F, I, O, E> as Seen>⟧.outside in
+    ensures ran { let seen = ⟦<Devices<F, I, O, E, S> as Seen>⟧.outside in
         let job = run_job (tree_of checked.now.net) order.tasks order.rejects in
-        Ran job order.rejects (seen devices.old) (seen devices.new) result }
-    ensures counts { let seen = ⟦<Devices<F, I, O, E> as Seen>⟧.outside in
+        Ran job (by_threads order.one (tree_of checked.now.net)) order.rejects
+        (seen devices.old) (seen devices.new) result }
+    ensures counts { let seen = ⟦<Devices<F, I, O, E, S> as Seen>⟧.outside in
         RunCounts (seen devices.old) (seen devices.new) result }
     ensures err { devices.new.err ≡ devices.old.err }
 {
-    let keep = order.rejects.is_some();
-    let answer = run_single(
-        alloc,
-        checked,
-        order.tasks,
-        keep,
-        &mut devices.input,
-        &mut devices.out,
-    );
+    let answer = answer(rt, alloc, checked, &order, devices);
     finish(alloc, order, &mut devices.files, answer)
+}
+
+// Runs a network: by threads, where each of its units can have one, and else on the calling thread.
+fn answer<
+    F: Files,
+    I: Source,
+    O: Sink,
+    E: Sink,
+    R: Wait + Clone + Drop + Send + 'static,
+    S: Spawner<NetJob<Stage<Comb<Op>>, R>>,
+>(
+    rt: &R,
+    alloc: Global,
+    checked: &Checked<Op>,
+    order: &Order,
+    devices: &mut Devices<F, I, O, E, S>,
+) -> Result<Ending, NetFault>
+    requires { checked.now.version ≡ version }
+    ensures ran { let seen = ⟦<Devices<F, I, O, E, S> as Seen>⟧.outside in
+        let job = run_job (tree_of checked.now.net) order.now.tasks order.now.rejects in
+        Answered job (by_threads order.now.one (tree_of checked.now.net))
+        (seen devices.old) (seen devices.new) result }
+    ensures input_faults { CountsNetInput (I.faults devices.old.input) (I.faults devices.new.input) result }
+    ensures output_faults { O.faults devices.new.out ≡ net_output_count (O.faults devices.old.out) result }
+    ensures refusals { S.refused devices.new.spawner ≡ refused_count (S.refused devices.old.spawner) result }
+    ensures files { devices.new.files ≡ devices.old.files }
+    ensures err { devices.new.err ≡ devices.old.err }
+{
+    let keep = order.rejects.is_some();
+    let Devices {
+        input,
+        out,
+        spawner,
+        ..
+    } = devices;
+    if order.one || !runs(checked) {
+        Ok(run_single(alloc, checked, order.tasks, keep, input, out)?)
+    } else {
+        // The words allow no other size. The clamp tells the prover so.
+        let cap = order.cap.clamp(1, 4096);
+        run_net(rt, alloc, checked, cap, keep, input, out, spawner)
+    }
 }
 
 // Stores the rejected records of a run that came to an end, and tells how it ended.
@@ -57,7 +110,7 @@ fn finish<F: Files>(
     alloc: Global,
     order: Order,
     files: &mut F,
-    answer: Result<Ending, RunFault>,
+    answer: Result<Ending, NetFault>,
 ) -> Result<u64, RunCause>
     ensures ends { Finished order.tasks order.rejects answer
         (F.told files.old) (F.told files.new) result }
@@ -68,9 +121,10 @@ fn finish<F: Files>(
             let rejected = store_rejects(alloc, files, order.rejects, ending.report)?;
             close(ending.stop, rejected)
         }
-        Err(RunFault::Tasks) => Err(RunCause::Tasks(order.tasks)),
-        Err(RunFault::Write) => Err(RunCause::Write),
-        Err(RunFault::NoMemory) => Err(RunCause::NoMemory),
+        Err(NetFault::Refused) => Err(RunCause::Refused),
+        Err(NetFault::Run(RunFault::Tasks)) => Err(RunCause::Tasks(order.tasks)),
+        Err(NetFault::Run(RunFault::Write)) => Err(RunCause::Write),
+        Err(NetFault::Run(RunFault::NoMemory)) => Err(RunCause::NoMemory),
     }
 }
 

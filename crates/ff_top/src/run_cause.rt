@@ -10,6 +10,8 @@ use ff_words::Text;
 /// Why a run ended so. Behind a whole answer stands the number of records that were rejected.
 #[derive(Debug, Drop)]
 pub enum RunCause {
+    /// The start of a thread was refused.
+    Refused,
     /// A wrap has more than so many tasks.
     Tasks(u64),
     /// The output took no more bytes.
@@ -31,6 +33,7 @@ impl RunCause {
         match self {
             RunCause::Tasks(_) | RunCause::Line(_, _) => 3,
             RunCause::Write | RunCause::Rejects(_, _) | RunCause::Read(_) => 4,
+            RunCause::Refused => 5,
             RunCause::NoMemory => 6,
         }
     }
@@ -53,6 +56,7 @@ impl RunCause {
             (E.faults sink.old) (E.faults sink.new) (run_message self.now) result }
     {
         match self {
+            RunCause::Refused => write_piece(sink, b"ffrun: a thread was refused\n"),
             RunCause::Tasks(most) => write_number(sink, b"ffrun: more than ", *most, b" tasks\n"),
             RunCause::Write => write_full(sink),
             RunCause::Rejects(name, _) => {

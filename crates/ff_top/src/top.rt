@@ -10,28 +10,44 @@ use crate::execute::execute;
 use crate::fault::Fault;
 use crate::pieces::write_memory;
 use crate::tell::{room_for, tell};
+use ff_engine::NetJob;
 use ff_io::{Files, Sink, Source};
+use ff_node::Comb;
+use ff_ops::Op;
 use ff_rec::reading_is_cutting;
+use ff_spawn::Spawner;
 use ff_text::networks_spelled_alike_are_the_same;
+use ff_unit::Stage;
 use std::alloc::Global;
+use std::sync::Wait;
 
 /// Does what the words say, and answers the status that the process ends with. What is said of it goes to `err`: the
-/// message of each status other than 0, and the number of rejected records. Where `err` fails, the status is the same.
-pub fn ffrun<F: Files, I: Source, O: Sink, E: Sink>(
+/// message of each status other than 0, and the number of rejected records. Where `err` fails, the status is the same. Threads
+/// wait by `rt`.
+pub fn ffrun<
+    F: Files,
+    I: Source,
+    O: Sink,
+    E: Sink,
+    R: Wait + Clone + Drop + Send + 'static,
+    S: Spawner<NetJob<Stage<Comb<Op>>, R>>,
+>(
+    rt: &R,
     alloc: Global,
     words: &[String],
-    devices: &mut Devices<F, I, O, E>,
+    devices: &mut Devices<F, I, O, E, S>,
 ) -> u8
-    ensures status { Contains (0 ∷ 1 ∷ 2 ∷ 3 ∷ 4 ∷ 6 ∷ []) result }
+    ensures status { Contains (0 ∷ 1 ∷ 2 ∷ 3 ∷ 4 ∷ 5 ∷ 6 ∷ []) result }
 
-    // Each answer with its status, when it comes, what was read, written and stored then, which count of faults rose, and
-    // what is told of it.
-    ensures ends { let seen = ⟦<Devices<F, I, O, E> as Seen>⟧.world in
+    // Each answer with its status, when it comes, what was read, written and stored then, which count of faults or of refused
+    // starts rose, and what is told of it.
+    ensures ends { let seen = ⟦<Devices<F, I, O, E, S> as Seen>⟧.world in
         Ended result (texts words.now) (seen devices.old) (seen devices.new) }
 
     // 0: the text that is given spells a network that keeps all rules, and the command was done with it: for `run` over all
-    // records of the input, of which the output took the text of an answer, and nothing besides.
-    ensures done { let seen = ⟦<Devices<F, I, O, E> as Seen>⟧.outside in
+    // records of the input, of which the output took the text of an answer, and nothing besides. Where it ran by threads, one
+    // was started for each unit, and they handled each record.
+    ensures done { let seen = ⟦<Devices<F, I, O, E, S> as Seen>⟧.outside in
         result ≡ 0 → (rejected : ℕ)
         × Did (texts words.now) (seen devices.old) (seen devices.new) (Ok rejected) }
 
@@ -39,15 +55,15 @@ pub fn ffrun<F: Files, I: Source, O: Sink, E: Sink>(
     ensures usage { result ≡ 1 → command (texts words.now) ≡ None }
     ensures no_command { command (texts words.now) ≡ None → (result ≡ 1) ⊎ (result ≡ 6) }
 
-    // Where no count of faults rose, and unless memory ran out: an accepted command over an input within the limits is
+    // Where no count of faults or refused starts rose, and unless memory ran out: an accepted command over an input within the limits is
     // done, over another input a limit is told, and a text that isn't accepted is refused.
-    ensures complete { let seen = ⟦<Devices<F, I, O, E> as Seen>⟧.outside in
+    ensures complete { let seen = ⟦<Devices<F, I, O, E, S> as Seen>⟧.outside in
         IsComplete result (texts words.now) (seen devices.old) (seen devices.new) }
 {
     reading_is_cutting();
     networks_spelled_alike_are_the_same();
     let room = room_for(alloc, words);
-    let ending = execute(alloc, words, devices);
+    let ending = execute(rt, alloc, words, devices);
     tell(&ending, room, &mut devices.err);
     match ending {
         Ok(_) => 0,

@@ -8,9 +8,9 @@ use Rattle.ff_top.proofs.execute.work.Goals as goal
 
 pub returns-in-Run-clause-worked : goal.returns-in-Run-clause-worked
 returns-in-Run-clause-worked g c =
-    let seen = outside_of g.F.Files.told g.F.Files.faults g.I.Source.left g.I.Source.ended g.I.Source.faults g.O.Sink.taken g.O.Sink.faults in
-    let before = seen c.args.devices.now.files c.args.devices.now.input c.args.devices.now.out in
-    let now = seen c.run_given.new.devices.files c.run_given.new.devices.input c.run_given.new.devices.out in
+    let seen = outside_of g.F.Files.told g.F.Files.faults g.I.Source.left g.I.Source.ended g.I.Source.faults g.O.Sink.taken g.O.Sink.faults g.S.Refusals.refused g.S.Refusals.starts g.S.Refusals.worked in
+    let before = seen c.args.devices.now.files c.args.devices.now.input c.args.devices.now.out c.args.devices.now.spawner in
+    let now = seen c.run_given.new.devices.files c.run_given.new.devices.input c.run_given.new.devices.out c.run_given.new.devices.spawner in
     inr (record {
       given = c.in-Run.given;
       is = ap given_to c.in-Run.is;

@@ -35,55 +35,55 @@ returns-in-Err-clause-ends g c = record {
 pub returns-in-Ok-clause-done : goal.returns-in-Ok-clause-done
 returns-in-Ok-clause-done g c =
     let e = c.execute-ending in
-    let before = outside_of g.F.Files.told g.F.Files.faults g.I.Source.left g.I.Source.ended g.I.Source.faults g.O.Sink.taken g.O.Sink.faults c.args.devices.now.files c.args.devices.now.input c.args.devices.now.out in
-    let now = outside_of g.F.Files.told g.F.Files.faults g.I.Source.left g.I.Source.ended g.I.Source.faults g.O.Sink.taken g.O.Sink.faults e.new.devices.files e.new.devices.input e.new.devices.out in
+    let before = outside_of g.F.Files.told g.F.Files.faults g.I.Source.left g.I.Source.ended g.I.Source.faults g.O.Sink.taken g.O.Sink.faults g.S.Refusals.refused g.S.Refusals.starts g.S.Refusals.worked c.args.devices.now.files c.args.devices.now.input c.args.devices.now.out c.args.devices.now.spawner in
+    let now = outside_of g.F.Files.told g.F.Files.faults g.I.Source.left g.I.Source.ended g.I.Source.faults g.O.Sink.taken g.O.Sink.faults g.S.Refusals.refused g.S.Refusals.starts g.S.Refusals.worked e.new.devices.files e.new.devices.input e.new.devices.out e.new.devices.spawner in
     done (texts c.args.words.now) before now 0 e.result (ap status_of (sym c.in-Ok.is)) e.ensures.comes
 
 pub returns-in-Ok-clause-usage : goal.returns-in-Ok-clause-usage
 returns-in-Ok-clause-usage g c =
     let e = c.execute-ending in
-    let before = outside_of g.F.Files.told g.F.Files.faults g.I.Source.left g.I.Source.ended g.I.Source.faults g.O.Sink.taken g.O.Sink.faults c.args.devices.now.files c.args.devices.now.input c.args.devices.now.out in
-    let now = outside_of g.F.Files.told g.F.Files.faults g.I.Source.left g.I.Source.ended g.I.Source.faults g.O.Sink.taken g.O.Sink.faults e.new.devices.files e.new.devices.input e.new.devices.out in
+    let before = outside_of g.F.Files.told g.F.Files.faults g.I.Source.left g.I.Source.ended g.I.Source.faults g.O.Sink.taken g.O.Sink.faults g.S.Refusals.refused g.S.Refusals.starts g.S.Refusals.worked c.args.devices.now.files c.args.devices.now.input c.args.devices.now.out c.args.devices.now.spawner in
+    let now = outside_of g.F.Files.told g.F.Files.faults g.I.Source.left g.I.Source.ended g.I.Source.faults g.O.Sink.taken g.O.Sink.faults g.S.Refusals.refused g.S.Refusals.starts g.S.Refusals.worked e.new.devices.files e.new.devices.input e.new.devices.out e.new.devices.spawner in
     usage (texts c.args.words.now) before now 0 e.result (ap status_of (sym c.in-Ok.is)) e.ensures.comes
 
 pub returns-in-Ok-clause-no_command : goal.returns-in-Ok-clause-no_command
 returns-in-Ok-clause-no_command g c =
     let e = c.execute-ending in
-    let before = outside_of g.F.Files.told g.F.Files.faults g.I.Source.left g.I.Source.ended g.I.Source.faults g.O.Sink.taken g.O.Sink.faults c.args.devices.now.files c.args.devices.now.input c.args.devices.now.out in
-    let now = outside_of g.F.Files.told g.F.Files.faults g.I.Source.left g.I.Source.ended g.I.Source.faults g.O.Sink.taken g.O.Sink.faults e.new.devices.files e.new.devices.input e.new.devices.out in
+    let before = outside_of g.F.Files.told g.F.Files.faults g.I.Source.left g.I.Source.ended g.I.Source.faults g.O.Sink.taken g.O.Sink.faults g.S.Refusals.refused g.S.Refusals.starts g.S.Refusals.worked c.args.devices.now.files c.args.devices.now.input c.args.devices.now.out c.args.devices.now.spawner in
+    let now = outside_of g.F.Files.told g.F.Files.faults g.I.Source.left g.I.Source.ended g.I.Source.faults g.O.Sink.taken g.O.Sink.faults g.S.Refusals.refused g.S.Refusals.starts g.S.Refusals.worked e.new.devices.files e.new.devices.input e.new.devices.out e.new.devices.spawner in
     no_command (texts c.args.words.now) before now 0 e.result (ap status_of (sym c.in-Ok.is)) e.ensures.comes
 
 pub returns-in-Ok-clause-complete : goal.returns-in-Ok-clause-complete
 returns-in-Ok-clause-complete g c =
     let e = c.execute-ending in
-    let before = outside_of g.F.Files.told g.F.Files.faults g.I.Source.left g.I.Source.ended g.I.Source.faults g.O.Sink.taken g.O.Sink.faults c.args.devices.now.files c.args.devices.now.input c.args.devices.now.out in
-    let now = outside_of g.F.Files.told g.F.Files.faults g.I.Source.left g.I.Source.ended g.I.Source.faults g.O.Sink.taken g.O.Sink.faults e.new.devices.files e.new.devices.input e.new.devices.out in
+    let before = outside_of g.F.Files.told g.F.Files.faults g.I.Source.left g.I.Source.ended g.I.Source.faults g.O.Sink.taken g.O.Sink.faults g.S.Refusals.refused g.S.Refusals.starts g.S.Refusals.worked c.args.devices.now.files c.args.devices.now.input c.args.devices.now.out c.args.devices.now.spawner in
+    let now = outside_of g.F.Files.told g.F.Files.faults g.I.Source.left g.I.Source.ended g.I.Source.faults g.O.Sink.taken g.O.Sink.faults g.S.Refusals.refused g.S.Refusals.starts g.S.Refusals.worked e.new.devices.files e.new.devices.input e.new.devices.out e.new.devices.spawner in
     complete c.reading_is_cutting.ensures c.networks_spelled_alike_are_the_same.ensures (texts c.args.words.now) before now 0 e.result (ap status_of (sym c.in-Ok.is)) e.ensures.comes e.ensures.counts
 
 pub returns-in-Err-clause-done : goal.returns-in-Err-clause-done
 returns-in-Err-clause-done g c =
     let e = c.execute-ending in
-    let before = outside_of g.F.Files.told g.F.Files.faults g.I.Source.left g.I.Source.ended g.I.Source.faults g.O.Sink.taken g.O.Sink.faults c.args.devices.now.files c.args.devices.now.input c.args.devices.now.out in
-    let now = outside_of g.F.Files.told g.F.Files.faults g.I.Source.left g.I.Source.ended g.I.Source.faults g.O.Sink.taken g.O.Sink.faults e.new.devices.files e.new.devices.input e.new.devices.out in
+    let before = outside_of g.F.Files.told g.F.Files.faults g.I.Source.left g.I.Source.ended g.I.Source.faults g.O.Sink.taken g.O.Sink.faults g.S.Refusals.refused g.S.Refusals.starts g.S.Refusals.worked c.args.devices.now.files c.args.devices.now.input c.args.devices.now.out c.args.devices.now.spawner in
+    let now = outside_of g.F.Files.told g.F.Files.faults g.I.Source.left g.I.Source.ended g.I.Source.faults g.O.Sink.taken g.O.Sink.faults g.S.Refusals.refused g.S.Refusals.starts g.S.Refusals.worked e.new.devices.files e.new.devices.input e.new.devices.out e.new.devices.spawner in
     done (texts c.args.words.now) before now c.status.result e.result (c.status.ensures ∙ ap status_of (sym c.in-Err.is)) e.ensures.comes
 
 pub returns-in-Err-clause-usage : goal.returns-in-Err-clause-usage
 returns-in-Err-clause-usage g c =
     let e = c.execute-ending in
-    let before = outside_of g.F.Files.told g.F.Files.faults g.I.Source.left g.I.Source.ended g.I.Source.faults g.O.Sink.taken g.O.Sink.faults c.args.devices.now.files c.args.devices.now.input c.args.devices.now.out in
-    let now = outside_of g.F.Files.told g.F.Files.faults g.I.Source.left g.I.Source.ended g.I.Source.faults g.O.Sink.taken g.O.Sink.faults e.new.devices.files e.new.devices.input e.new.devices.out in
+    let before = outside_of g.F.Files.told g.F.Files.faults g.I.Source.left g.I.Source.ended g.I.Source.faults g.O.Sink.taken g.O.Sink.faults g.S.Refusals.refused g.S.Refusals.starts g.S.Refusals.worked c.args.devices.now.files c.args.devices.now.input c.args.devices.now.out c.args.devices.now.spawner in
+    let now = outside_of g.F.Files.told g.F.Files.faults g.I.Source.left g.I.Source.ended g.I.Source.faults g.O.Sink.taken g.O.Sink.faults g.S.Refusals.refused g.S.Refusals.starts g.S.Refusals.worked e.new.devices.files e.new.devices.input e.new.devices.out e.new.devices.spawner in
     usage (texts c.args.words.now) before now c.status.result e.result (c.status.ensures ∙ ap status_of (sym c.in-Err.is)) e.ensures.comes
 
 pub returns-in-Err-clause-no_command : goal.returns-in-Err-clause-no_command
 returns-in-Err-clause-no_command g c =
     let e = c.execute-ending in
-    let before = outside_of g.F.Files.told g.F.Files.faults g.I.Source.left g.I.Source.ended g.I.Source.faults g.O.Sink.taken g.O.Sink.faults c.args.devices.now.files c.args.devices.now.input c.args.devices.now.out in
-    let now = outside_of g.F.Files.told g.F.Files.faults g.I.Source.left g.I.Source.ended g.I.Source.faults g.O.Sink.taken g.O.Sink.faults e.new.devices.files e.new.devices.input e.new.devices.out in
+    let before = outside_of g.F.Files.told g.F.Files.faults g.I.Source.left g.I.Source.ended g.I.Source.faults g.O.Sink.taken g.O.Sink.faults g.S.Refusals.refused g.S.Refusals.starts g.S.Refusals.worked c.args.devices.now.files c.args.devices.now.input c.args.devices.now.out c.args.devices.now.spawner in
+    let now = outside_of g.F.Files.told g.F.Files.faults g.I.Source.left g.I.Source.ended g.I.Source.faults g.O.Sink.taken g.O.Sink.faults g.S.Refusals.refused g.S.Refusals.starts g.S.Refusals.worked e.new.devices.files e.new.devices.input e.new.devices.out e.new.devices.spawner in
     no_command (texts c.args.words.now) before now c.status.result e.result (c.status.ensures ∙ ap status_of (sym c.in-Err.is)) e.ensures.comes
 
 pub returns-in-Err-clause-complete : goal.returns-in-Err-clause-complete
 returns-in-Err-clause-complete g c =
     let e = c.execute-ending in
-    let before = outside_of g.F.Files.told g.F.Files.faults g.I.Source.left g.I.Source.ended g.I.Source.faults g.O.Sink.taken g.O.Sink.faults c.args.devices.now.files c.args.devices.now.input c.args.devices.now.out in
-    let now = outside_of g.F.Files.told g.F.Files.faults g.I.Source.left g.I.Source.ended g.I.Source.faults g.O.Sink.taken g.O.Sink.faults e.new.devices.files e.new.devices.input e.new.devices.out in
+    let before = outside_of g.F.Files.told g.F.Files.faults g.I.Source.left g.I.Source.ended g.I.Source.faults g.O.Sink.taken g.O.Sink.faults g.S.Refusals.refused g.S.Refusals.starts g.S.Refusals.worked c.args.devices.now.files c.args.devices.now.input c.args.devices.now.out c.args.devices.now.spawner in
+    let now = outside_of g.F.Files.told g.F.Files.faults g.I.Source.left g.I.Source.ended g.I.Source.faults g.O.Sink.taken g.O.Sink.faults g.S.Refusals.refused g.S.Refusals.starts g.S.Refusals.worked e.new.devices.files e.new.devices.input e.new.devices.out e.new.devices.spawner in
     complete c.reading_is_cutting.ensures c.networks_spelled_alike_are_the_same.ensures (texts c.args.words.now) before now c.status.result e.result (c.status.ensures ∙ ap status_of (sym c.in-Err.is)) e.ensures.comes e.ensures.counts
