@@ -3,17 +3,21 @@ use Rattle.std.specs.Prelude.{◌≡◌, ℕ, ◌+◌, ◌≤◌, List, ◌++◌
 use Rattle.ff_rec.specs.Lines.{Rec, text}
 use Rattle.ff_rec.specs.Streams.{items, carried}
 use Rattle.ff_node.specs.Behaviour.{Behaviour}
-use Rattle.ff_node.specs.Comb.{Part, comb_node}
+use Rattle.ff_node.specs.Comb.{Part, comb_node, running}
 use Rattle.ff_mean.specs.Pipelines.{ArePipelineOf}
 use Rattle.ff_net.specs.Counts.{units}
 use Rattle.ff_net.specs.Nodes.{node_groups}
 use Rattle.ff_net.specs.Tree.{Tree}
 use Rattle.ff_spawn.specs.Counts.{RoseBy}
-use Rattle.ff_steps.specs.Units.{combs_of, opened_units}
+use Rattle.ff_steps.specs.Units.{opened_units}
 use Rattle.ff_stream.specs.Jobs.{Job}
 use Rattle.ff_unit.specs.Stage.{StageState}
 use Rattle.ff_engine.specs.Callers.{CallerState, Shows}
 use Rattle.ff_engine.specs.Jobs.{JobState}
+
+-- a comb of each of these groups of nodes, before its first record
+abbrev pub combs_of : {N : Type 0} → Behaviour N → List (List N) → List (List (Part N))
+combs_of b groups = map (λ g. running (map b.opening g)) groups
 
 -- the state of a unit of the network
 abbrev pub UnitOf : Type 0 → Type 0
@@ -21,9 +25,8 @@ UnitOf N = StageState (List (Part N))
 
 -- these jobs were made of the network of a run
 pub record AreJobsOf {N : Type 0} (b : Behaviour N) (j : Job N) (jobs : List (JobState (UnitOf N))) : Type 0 where
-  pub does : j.does ≡ b
   pub units_are : map (λ job. job.unit) jobs ≡ opened_units b j.keep (node_groups j.net)
-  pub stand : ArePipelineOf b j.net (comb_node b) (combs_of b (node_groups j.net))
+  pub stand : ArePipelineOf j.does j.net (comb_node b) (combs_of b (node_groups j.net))
   pub number : length (node_groups j.net) ≡ units j.net
   pub some : 1 ≤ length (node_groups j.net)
 
