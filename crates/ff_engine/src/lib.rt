@@ -5,5 +5,9 @@ mod making;
 mod net_job;
 mod report;
 mod settling;
+mod stepping;
 
 pub use net_job::NetJob;
+
+#[cfg(test)]
+mod tests;

@@ -1,0 +1,3 @@
+pub mod Linking
+pub mod Passing
+pub mod Finished
