@@ -1,5 +1,5 @@
 -- Jobs one behind the other as the chain of their units.
-use Rattle.std.proofs.Common.{◌≡◌, ℕ, ◌+◌, ◌≤◌, Bool, true, List, [], ◌∷◌, ◌++◌, length, map, refl, sym, ap, ap₂, ◌∙◌, subst, append_assoc, arith}
+use Rattle.std.proofs.Common.{◌≡◌, ℕ, ◌+◌, ◌≤◌, List, [], ◌∷◌, ◌++◌, length, map, refl, sym, ap, ◌∙◌, subst, arith}
 use Rattle.std.proofs.lemmas.List.Sums.{sum_by-cons}
 use Rattle.std.specs.List.{AllZip, sum_by}
 use Rattle.ff_rec.specs.Counts.{counted}
@@ -7,16 +7,7 @@ use Rattle.ff_node.specs.Runs.{Message}
 use Rattle.ff_unit.specs.Units.{Doing, Ran}
 use Rattle.ff_steps.specs.Chains.{Passes, Chained, gots_along}
 use Rattle.ff_engine.specs.Jobs.{JobState, HasWorked, handled}
-use Rattle.ff_engine.specs.Lines.{Linked, JobPasses, JobsChained}
-use Rattle.ff_ring.specs.Names.{RingName}
-
-module _ {U : Type 0} where
-  -- one job more, behind the others
-  pub JobsChained-push : (before : List Message) (jobs : List (JobState U)) (mid : List Message) (job : JobState U) (behind : List Message)
-      → JobsChained before jobs mid → JobPasses mid job behind → JobsChained before (jobs ++ job ∷ []) behind
-  JobsChained-push before [] mid job behind e passes = (behind, subst (λ ms. JobPasses ms job behind) e passes, refl)
-  JobsChained-push before (j ∷ jobs) mid job behind chained passes =
-      (chained.0, chained.1, JobsChained-push chained.0 jobs mid job behind chained.2 passes)
+use Rattle.ff_engine.specs.Lines.{JobPasses, JobsChained}
 
 module _ {U : Type 0} (d : Doing U) where
   -- each job that ended was reached by its unit's steps
@@ -35,22 +26,6 @@ module _ {U : Type 0} (d : Doing U) where
   Chained-jobs before (was ∷ started) [] behind all c = absurd all
   Chained-jobs before (was ∷ started) (job ∷ jobs) behind all c =
       (c.0, Passes-job before was job c.0 all.0 c.1, Chained-jobs c.0 started jobs behind all.1 c.2)
-
-  -- a run leaves the rings of each job
-  pub Linked-worked : (first : RingName) (started jobs : List (JobState U)) (last : RingName) → AllZip (HasWorked d) started jobs → Linked first started last → Linked first jobs last
-  Linked-worked first [] [] last all l = l
-  Linked-worked first [] (job ∷ jobs) last all l = absurd all
-  Linked-worked first (was ∷ started) [] last all l = absurd all
-  Linked-worked first (was ∷ started) (job ∷ jobs) last all l =
-      (all.0.reads ∙ l.0, (l.1.0, all.0.writes ∙ l.1.1, Linked-worked l.1.0 started jobs last all.1 l.1.2))
-
-  -- a run leaves what each unit was before its first step
-  pub openings-worked : (started jobs : List (JobState U)) → AllZip (HasWorked d) started jobs
-      → map d.opening (map (λ job. job.unit) jobs) ≡ map d.opening (map (λ job. job.unit) started)
-  openings-worked [] [] all = refl
-  openings-worked [] (job ∷ jobs) all = absurd all
-  openings-worked (was ∷ started) [] all = absurd all
-  openings-worked (was ∷ started) (job ∷ jobs) all = ap₂ (λ u us. u ∷ us) all.0.start (openings-worked started jobs all.1)
 
   -- what the jobs handled is what their units took, as far as counts of 64 bits tell
   pub handled-jobs : (before : List Message) (started jobs : List (JobState U)) (behind : List Message) (all : AllZip (HasWorked d) started jobs) (c : JobsChained before jobs behind)

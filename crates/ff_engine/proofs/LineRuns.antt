@@ -47,7 +47,8 @@ use Rattle.ff_engine.specs.Jobs.{JobState, HasWorked, handled}
 use Rattle.ff_engine.specs.Lines.{JobsChained}
 use Rattle.ff_engine.specs.Networks.{UnitOf, AreJobsOf, combs_of}
 use Rattle.ff_engine.specs.Ends.{ends_by_eos}
-use Rattle.ff_engine.proofs.JobChains.{Chained-jobs, openings-worked, handled-jobs}
+use Rattle.ff_engine.proofs.Finished.{openings-finished}
+use Rattle.ff_engine.proofs.JobChains.{Chained-jobs, handled-jobs}
 
 -- records that were put go on to all that follow, whether Abort was put behind them
 pub GoesOn-open : (before : List Message) (xs zs : List Rec) → before ≡ carried xs ++ AbortMsg ∷ [] → GoesOn (unaborted before) (carried (xs ++ zs))
@@ -129,10 +130,10 @@ module _ {N : Type 0} (b : Behaviour N) (kind : KeepsKind (comb_node b)) (facts 
 
     -- the units run the combs of the network
     runs : RunNodes c j.keep (map (λ job. job.unit) joined.finished) os
-    runs = openings-worked d started joined.finished joined.each ∙ ap (λ vs. map (opening_stage c) vs) are ∙ opened-again c kind j.keep os
+    runs = openings-finished d started joined.finished joined.each ∙ ap (λ vs. map (opening_stage c) vs) are ∙ opened-again c kind j.keep os
 
-    chain : Chained d before (map (λ job. job.unit) joined.finished) joined.behind
-    chain = Chained-jobs d before started joined.finished joined.behind joined.each joined.chained
+    chain : Chained d before (map (λ job. job.unit) joined.finished) joined.settled.behind
+    chain = Chained-jobs d before started joined.finished joined.settled.behind joined.each joined.settled.chained
 
     ended : AllByRecursion HasEnded us → AllByRecursion HasEnded (map (λ job. job.unit) joined.finished)
     ended all = subst (λ vs. AllByRecursion HasEnded vs) joined.units_are all
@@ -140,9 +141,9 @@ module _ {N : Type 0} (b : Behaviour N) (kind : KeepsKind (comb_node b)) (facts 
     -- what was taken behind the last unit is the first of what the network sends
     begins : (xs : List Rec) → GoesOn (unaborted before) (carried xs) → (rest : List Rec) × (pipeline c os xs ≡ items taken ++ rest)
     begins xs g = GoesOn-items taken (pipeline c os xs)
-        (GoesOn-front taken joined.left (carried (pipeline c os xs))
-        (subst (λ ms. GoesOn (unaborted ms) (carried (pipeline c os xs))) joined.splits
-        (GoesOn-chain c j.keep facts before (map (λ job. job.unit) joined.finished) os joined.behind runs chain xs g)))
+        (GoesOn-front taken joined.settled.left (carried (pipeline c os xs))
+        (subst (λ ms. GoesOn (unaborted ms) (carried (pipeline c os xs))) joined.settled.splits
+        (GoesOn-chain c j.keep facts before (map (λ job. job.unit) joined.finished) os joined.settled.behind runs chain xs g)))
 
     -- the text of it begins an answer
     pub IsBeginning-joined : (xs : List Rec) → GoesOn (unaborted before) (carried xs) → (front back : List ℕ) → text (items taken) ≡ front ++ back → IsBeginning j xs front
@@ -175,33 +176,33 @@ module _ {N : Type 0} (b : Behaviour N) (kind : KeepsKind (comb_node b)) (facts 
         ]
 
     module _ (xs : List Rec) (put : before ≡ closed (carried xs)) (all : AllByRecursion HasEnded us) where
-      whole : joined.behind ≡ closed (carried (pipeline c os xs))
-      whole = closed-chain c j.keep facts before (map (λ job. job.unit) joined.finished) os joined.behind runs chain (ended all) xs put
+      whole : joined.settled.behind ≡ closed (carried (pipeline c os xs))
+      whole = closed-chain c j.keep facts before (map (λ job. job.unit) joined.finished) os joined.settled.behind runs chain (ended all) xs put
 
       -- all that the network sends was taken, where Eos was
       items-joined : (front : List Message) → taken ≡ closed front → items taken ≡ pipeline c os xs
       items-joined front is =
           let same : front ≡ carried (pipeline c os xs) =
-          closed-front front joined.left (pipeline c os xs) (ap (λ ms. ms ++ joined.left) (sym is) ∙ sym joined.splits ∙ whole) in
+          closed-front front joined.settled.left (pipeline c os xs) (ap (λ ms. ms ++ joined.settled.left) (sym is) ∙ sym joined.settled.splits ∙ whole) in
           ap items (is ∙ ap closed same) ∙ items-closed (pipeline c os xs)
 
       rejects-joined : counted (sum_by (λ u. u.rejects) us) ≡ counted (length (pipeline_rejected c os xs))
       rejects-joined =
           ap (λ vs. counted (sum_by (λ u. u.rejects) vs)) joined.units_are
           ∙ ap counted (sym (is_sum_by rejects_of (λ u. u.rejects) refl (λ u vs. refl) (map (λ job. job.unit) joined.finished)))
-          ∙ rejects-chain c j.keep facts before (map (λ job. job.unit) joined.finished) os joined.behind runs chain (ended all) xs put
+          ∙ rejects-chain c j.keep facts before (map (λ job. job.unit) joined.finished) os joined.settled.behind runs chain (ended all) xs put
 
       kept-joined : j.keep ≡ true → Same (pipeline_rejected c os xs) (flat_map (λ u. u.kept) us)
       kept-joined keep =
           let vs = map (λ job. job.unit) joined.finished in
-          Same-trans (Same-sym (kept-chain c j.keep facts before vs os joined.behind runs chain (ended all) keep xs put))
+          Same-trans (Same-sym (kept-chain c j.keep facts before vs os joined.settled.behind runs chain (ended all) keep xs put))
           (Same-≡ _ _ (ap (λ l. l ++ flat_map (λ u. u.kept) vs) (untaken c j.keep os started joined.finished are joined.each)
           ∙ ap (λ ws. flat_map (λ u. u.kept) ws) (sym joined.units_are)))
 
       none-joined : j.keep ≡ false → flat_map (λ u. u.kept) us ≡ []
       none-joined none =
           ap (λ ws. flat_map (λ u. u.kept) ws) joined.units_are
-          ∙ none-chain c facts before (map (λ job. job.unit) joined.finished) os joined.behind
+          ∙ none-chain c facts before (map (λ job. job.unit) joined.finished) os joined.settled.behind
           (subst (λ k. RunNodes c k (map (λ job. job.unit) joined.finished) os) none runs) chain (ended all)
 
       -- the report of the units is that of the network
@@ -234,7 +235,7 @@ module _ {N : Type 0} (b : Behaviour N) (kind : KeepsKind (comb_node b)) (facts 
           let many : length vs ≡ length os = sym (length-map vs (opening_stage c)) ∙ ap length runs ∙ length-map os (λ o. opened_stage c o j.keep) in
           let groups : length os ≡ length (node_groups j.net) = length-map (node_groups j.net) (λ g. running (map b.opening g)) in
           let some : 1 ≤ length vs = omega (arith, many, groups, made.some) in
-          let took = took-chain c j.keep facts before vs os joined.behind runs chain (ended all) xs put some in
+          let took = took-chain c j.keep facts before vs os joined.settled.behind runs chain (ended all) xs put some in
           let rose : RoseBy (sum_by handled joined.finished) worked worked' =
           subst (λ n. RoseBy (sum_by handled joined.finished) worked n) (sym joined.work) (RoseBy-worked_after handled worked joined.finished) in
-          omega (arith, many, groups, made.number, took, rose, handled-jobs d before started joined.finished joined.behind joined.each joined.chained)
+          omega (arith, many, groups, made.number, took, rose, handled-jobs d before started joined.finished joined.settled.behind joined.each joined.settled.chained)

@@ -1,5 +1,5 @@
 -- A unit with its ports, which runs in a thread of its own.
-use Rattle.std.specs.Prelude.{◌≡◌, ◌<◌, ℕ, true, List, [], length, replicate, slice_index}
+use Rattle.std.specs.Prelude.{◌≡◌, ◌<◌, ℕ, true, List, [], ◌∷◌, length, replicate, slice_index}
 use Rattle.std.specs.List.{sum_by}
 use Rattle.ff_rec.specs.Counts.{counted}
 use Rattle.ff_node.specs.Runs.{Message}
@@ -20,6 +20,14 @@ pub record JobState (U : Type 0) : Type 0 where
 -- how many messages it took, as far as a count of 64 bits tells
 abbrev pub handled : {U : Type 0} → JobState U → ℕ
 handled job = counted (sum_by (λ (ms : List Message). length ms) job.gots)
+
+-- a unit with one in and one out, before its first step
+pub record IsOpened {U : Type 0} (d : Doing U) (u : U) : Type 0 where
+  pub made : d.Made u
+  pub opened : u ≡ d.opening u
+  pub ins : d.ins u ≡ 1
+  pub outs : d.outs u ≡ 1
+  pub ran : Ran d u ([] ∷ []) ([] ∷ [])
 
 -- a job that made no step
 pub record IsFresh {U : Type 0} (d : Doing U) (job : JobState U) : Type 0 where

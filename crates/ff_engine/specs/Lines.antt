@@ -21,3 +21,10 @@ pub record JobPasses {U : Type 0} (before : List Message) (job : JobState U) (be
 abbrev pub JobsChained : {U : Type 0} → List Message → List (JobState U) → List Message → Type 0
 JobsChained before [] behind = behind ≡ before
 JobsChained before (job ∷ jobs) behind = (between : List Message) × JobPasses before job between × JobsChained between jobs behind
+
+-- and so much was taken of what the last of them put
+pub record IsSettled {U : Type 0} (before : List Message) (jobs : List (JobState U)) (taken : List Message) : Type 0 where
+  pub behind : List Message
+  pub chained : JobsChained before jobs behind
+  pub left : List Message
+  pub splits : behind ≡ taken ++ left

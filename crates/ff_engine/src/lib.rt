@@ -10,7 +10,11 @@ mod net_job;
 mod report;
 mod run;
 mod settling;
+mod stepping;
 
 pub use fault::NetFault;
 pub use net_job::NetJob;
 pub use run::{run_net, runs};
+
+#[cfg(test)]
+mod tests;

@@ -1,0 +1,5 @@
+pub mod Linking
+pub mod Passing
+pub mod Finished
+pub mod JobChains
+pub mod LineRuns

@@ -1,0 +1,45 @@
+// How a unit is stepped in a thread of its own.
+ghost use Rattle.std.specs.Prelude.{◌≡◌, true};
+ghost use Rattle.ff_unit.specs.Units.{Ran};
+
+use ff_port::{Ports, Step};
+use ff_rec::Record;
+use ff_ring::Pause;
+use ff_unit::Unit;
+use std::sync::Wait;
+
+/// Steps the unit until it has ended.
+pub(crate) fn run_unit<U: Unit, P: Ports<Record>, R: Wait>(
+    unit: &mut U,
+    ports: &mut P,
+    pause: &mut Pause,
+    rt: &R,
+)
+    requires { Ran U.does unit.old (P.gots ports.old) (P.puts ports.old) }
+    ensures done { U.does.done unit.new ≡ true }
+    ensures ran { Ran U.does unit.new (P.gots ports.new) (P.puts ports.new) }
+    ensures start { U.does.opening unit.new ≡ U.does.opening unit.old }
+    ensures taken { U.does.taken unit.new ≡ U.does.taken unit.old }
+    ensures told { U.does.told unit.new ≡ U.does.told unit.old }
+    ensures link { P.link ports.new ≡ P.link ports.old }
+{
+    for _ in rt.forever() {
+        match unit.step(ports) {
+            Step::Moved => pause.reset(),
+            Step::Waits => wait(ports, pause, rt),
+            Step::Ended(_) => return,
+        }
+    }
+}
+
+// Waits for the other ends. Before it parks, what was put is handed over: the others wait for that.
+fn wait<P: Ports<Record>, R: Wait>(ports: &mut P, pause: &mut Pause, rt: &R)
+    ensures gots { P.gots ports.new ≡ P.gots ports.old }
+    ensures puts { P.puts ports.new ≡ P.puts ports.old }
+    ensures link { P.link ports.new ≡ P.link ports.old }
+{
+    if !pause.spin() {
+        ports.flush();
+        pause.park(rt);
+    }
+}
