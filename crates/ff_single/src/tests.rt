@@ -1,11 +1,10 @@
 // What no clause says: that the calls succeed while memory is there, and that the clauses mean these bytes.
-mod gate;
 
 use crate::{Ending, RunFault, Stop, run_single};
 use ff_io::{MemSink, MemSource, Source};
 use ff_net::{Checked, Net, Test, Version, check};
 use ff_rec::{Cmp, LineFault};
-use gate::Gate;
+use ff_test_nodes::Gate;
 use std::alloc::Global;
 use std::process::Abort;
 use std::test::Fail;

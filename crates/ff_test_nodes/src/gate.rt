@@ -1,7 +1,8 @@
-// A small node: it sends each record of one field on and rejects the others.
+// A node that sends some records on and rejects the others.
 use ff_node::{Class, Next, Node, Sends};
 use ff_rec::{NoMemory, Record};
 
+/// A node that sends each record of one field on and rejects the others.
 #[derive(Clone, Copy, Debug)]
 pub struct Gate;
 
