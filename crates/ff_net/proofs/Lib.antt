@@ -7,3 +7,4 @@ pub mod NodeSets
 pub mod KeptLeaves
 pub mod KeptWraps
 pub mod GoodNets
+pub mod NodeGroups

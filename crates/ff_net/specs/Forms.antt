@@ -22,6 +22,21 @@ abbrev mutual
   any_wrap (more t ts) = has_wrap t || any_wrap ts
 
 abbrev mutual
+  -- whether a farm, an ordered farm, an all-to-all or a wrap stands in it: then some of its nodes are copied
+  pub has_copies : {N : Type 0} → Tree N → Bool
+  has_copies (Leaf o) = false
+  has_copies (Pipe ts) = any_copies ts
+  has_copies (Comb ts) = any_copies ts
+  has_copies (Farm n s w) = true
+  has_copies (OFarm n s w) = true
+  has_copies (A2a n l r m t) = true
+  has_copies (Wrap n w t) = true
+
+  pub any_copies : {N : Type 0} → Trees N → Bool
+  any_copies none = false
+  any_copies (more t ts) = has_copies t || any_copies ts
+
+abbrev mutual
   -- whether a farm, an all-to-all or a wrap stands in it: then what comes out may come in another order
   pub is_unordered : {N : Type 0} → Tree N → Bool
   is_unordered (Leaf o) = false

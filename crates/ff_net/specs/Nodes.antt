@@ -19,6 +19,21 @@ abbrev mutual
   nodes_through (more t ts) = nodes_in t ++ nodes_through ts
 
 abbrev mutual
+  -- the nodes of each leaf and each comb, one behind another; copies have none
+  pub node_groups : {N : Type 0} → Tree N → List (List N)
+  node_groups (Leaf o) = (o ∷ []) ∷ []
+  node_groups (Pipe ts) = groups_through ts
+  node_groups (Comb ts) = nodes_through ts ∷ []
+  node_groups (Farm n s w) = []
+  node_groups (OFarm n s w) = []
+  node_groups (A2a n l r m t) = []
+  node_groups (Wrap n w p) = []
+
+  pub groups_through : {N : Type 0} → Trees N → List (List N)
+  groups_through none = []
+  groups_through (more t ts) = node_groups t ++ groups_through ts
+
+abbrev mutual
   -- the same network, each of its nodes before its first record
   pub opened : {N : Type 0} → Behaviour N → Tree N → Tree N
   opened b (Leaf o) = Leaf (b.opening o)

@@ -1,12 +1,12 @@
 // Networks that keep all rules.
 ghost use Rattle.std.specs.Prelude.{◌≡◌, None, IfOk};
-ghost use Rattle.ff_net.specs.Forms.{has_wrap, is_ordered, sweeps};
+ghost use Rattle.ff_net.specs.Forms.{has_wrap, has_copies, is_ordered, sweeps};
 ghost use Rattle.ff_net.specs.Tree.{tree_of};
 ghost use Rattle.ff_net.specs.Rules.{first_fault};
 ghost use Rattle.ff_net.specs.Verdict.{fault_in};
 
 use crate::fault::first_fault;
-use crate::forms::{has_choice, has_wrap, is_unordered};
+use crate::forms::{has_choice, has_copies, has_wrap, is_unordered};
 use crate::{Net, RuleFault, Version};
 use ff_node::Node;
 
@@ -58,6 +58,13 @@ impl<N: Node> Checked<N> {
         ensures { result ≡ has_wrap (tree_of self.now.net) }
     {
         has_wrap(&self.net)
+    }
+
+    /// Whether some of its nodes are copied: a farm, an ordered farm, an all-to-all or a wrap stands in it.
+    pub fn has_copies(&self) -> bool
+        ensures { result ≡ has_copies (tree_of self.now.net) }
+    {
+        has_copies(&self.net)
     }
 
     /// Whether it can be run by sweeps over its units: no wrap stands in it, and nothing goes on demand.

@@ -1,7 +1,8 @@
 // Which forms stand in a network.
 ghost use Rattle.std.specs.Prelude.{◌≡◌};
 ghost use Rattle.ff_net.specs.Tree.{tree_of, trees_of};
-ghost use Rattle.ff_net.specs.Forms.{has_wrap, any_wrap, is_unordered, any_unordered, has_choice, any_choice};
+ghost use Rattle.ff_net.specs.Forms.{has_wrap, any_wrap, has_copies, any_copies};
+ghost use Rattle.ff_net.specs.Forms.{is_unordered, any_unordered, has_choice, any_choice};
 
 use crate::{Net, Route, Sched};
 
@@ -31,6 +32,32 @@ fn any_wrap<N>(parts: &[Net<N>]) -> bool
 {
     for part in parts {
         if has_wrap(part) {
+            return true;
+        }
+    }
+    false
+}
+
+/// Whether a farm, an ordered farm, an all-to-all or a wrap stands in it.
+#[cycle(copied)]
+#[tactic(auto, using(crate::specs::Tree::tree_forms))]
+pub(crate) fn has_copies<N>(net: &Net<N>) -> bool
+    ensures { result ≡ has_copies (tree_of net.now) }
+{
+    match net {
+        Net::Leaf(_) => false,
+        Net::Pipe(parts) | Net::Comb(parts) => any_copies(parts),
+        Net::Farm { .. } | Net::OFarm { .. } | Net::A2a { .. } | Net::Wrap { .. } => true,
+    }
+}
+
+#[cycle(copied)]
+#[tactic(auto, using(crate::specs::Tree::tree_forms))]
+fn any_copies<N>(parts: &[Net<N>]) -> bool
+    ensures { result ≡ any_copies (trees_of parts.now) }
+{
+    for part in parts {
+        if has_copies(part) {
             return true;
         }
     }

@@ -250,6 +250,7 @@ fn checked(net: Made) -> Result<Checked<Silent>, Fail> {
 fn what_a_checked_pipe_tells(rt: HostRuntime) -> Result<(), Fail> {
     let line = checked(row(rt.alloc(), 2))?;
     assert!(rt; line.is_ordered() && line.sweeps() && !line.has_wrap());
+    assert!(rt; !line.has_copies());
     assert!(rt; matches!(line.net(), Net::Pipe(_)));
     assert_eq!(rt; line.version(), Version::Two);
     Ok(())
@@ -258,7 +259,7 @@ fn what_a_checked_pipe_tells(rt: HostRuntime) -> Result<(), Fail> {
 #[test]
 fn what_a_checked_ordered_farm_tells(rt: HostRuntime) -> Result<(), Fail> {
     let picks = checked(ofarm(rt.alloc(), 2, id()))?;
-    assert!(rt; picks.is_ordered() && !picks.sweeps());
+    assert!(rt; picks.is_ordered() && !picks.sweeps() && picks.has_copies());
     Ok(())
 }
 
