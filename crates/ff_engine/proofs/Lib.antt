@@ -1,3 +1,4 @@
 pub mod Linking
 pub mod Passing
 pub mod Finished
+pub mod Stages
