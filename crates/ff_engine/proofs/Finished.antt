@@ -35,7 +35,7 @@ module _ {U : Type 0} (d : Doing U) where
   told_of f keeps (s ∷ ss) [] each = absurd each
   told_of f keeps (s ∷ ss) (t ∷ ts) each =
       ap (λ a. a ∷ map f (map (λ j. j.unit) ts)) (keeps s t each.0)
-      ∙ ap (λ as. f s.unit ∷ as) (told_of f keeps ss ts each.1)
+      ∙ ap (λ told. f s.unit ∷ told) (told_of f keeps ss ts each.1)
 
   module _ (started finished : List (JobState U)) (each : AllZip (HasWorked d) started finished) where
     pub openings-finished : map d.opening (map (λ j. j.unit) finished) ≡ map d.opening (map (λ j. j.unit) started)

@@ -1,5 +1,6 @@
 pub mod Linking
 pub mod Passing
 pub mod Finished
+pub mod Stages
 pub mod JobChains
 pub mod LineRuns

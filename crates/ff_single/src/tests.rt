@@ -1,5 +1,4 @@
 // What no clause says: that the calls succeed while memory is there, and that the clauses mean these bytes.
-
 use crate::{Ending, RunFault, Stop, run_single};
 use ff_io::{MemSink, MemSource, Source};
 use ff_net::{Checked, Net, Test, Version, check};
