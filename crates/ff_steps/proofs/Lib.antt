@@ -17,6 +17,8 @@ pub mod FeederRuns
 pub mod DrainerRuns
 pub mod Chain
 pub mod ChainRejects
+pub mod ChainSnoc
+pub mod ChainTook
 pub mod PipelineWiring
 pub mod PipelineRuns
 pub mod PipelineBegins

@@ -10,4 +10,4 @@ loop-node-preserved g c =
     let same = c.deref-node-items.ensures.value in
     let read : c.node-item.result ≡ get_or c.args.nodes.now.items c.loop-node.node-index c.node-item.result = cc in
     opened_stages-push g.N.Node.does g.met.N.Node.keeps_kind c.args.nodes.now.items c.args.keep c.loop-node.node-index c.node-item.result c.in_ok-copy.field-0 c.new.result
-    c.loop-node.units.items c.push.new.self.items low read c.in_ok-copy.ensures c.new.ensures c.loop-node.invariant c.in_ok-push.ensures.items
+    c.loop-node.units.items c.push.new.self.items low read c.in_ok-copy.ensures c.new.ensures.opened c.loop-node.invariant c.in_ok-push.ensures.items
