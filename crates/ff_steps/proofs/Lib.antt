@@ -24,3 +24,4 @@ pub mod PipelineRuns
 pub mod PipelineBegins
 pub mod PipelineEnds
 pub mod PipelineOpened
+pub mod UnitsOpened
