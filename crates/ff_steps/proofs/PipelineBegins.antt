@@ -1,5 +1,5 @@
 -- What the drainer of a pipeline kept begins what its nodes send for the input.
-use Rattle.std.proofs.Common.{◌≡◌, Bool, false, List, [], ◌∷◌, ◌++◌, sym, ap, ◌∙◌, append_assoc}
+use Rattle.std.proofs.Common.{◌≡◌, Bool, false, List, [], ◌∷◌, ◌++◌, ap, ◌∙◌, append_assoc}
 use Rattle.ff_rec.specs.Lines.{Rec}
 use Rattle.ff_rec.specs.Streams.{items, carried, unaborted, GoesOn}
 use Rattle.ff_node.specs.Behaviour.{Behaviour, pipeline}

@@ -1,5 +1,5 @@
 -- The runs of the parties of a pipeline, edge by edge.
-use Rattle.std.proofs.Common.{◌≡◌, ℕ, suc, ◌+◌, ◌<◌, ◌≤◌, ◌==◌, if◌then◌else◌, Bool, List, [], ◌∷◌, ◌++◌, length, map, get_or, refl, sym, ap, ◌∙◌, subst, arith}
+use Rattle.std.proofs.Common.{◌≡◌, ℕ, suc, ◌+◌, ◌<◌, ◌≤◌, ◌==◌, if◌then◌else◌, Bool, List, [], ◌∷◌, ◌++◌, length, get_or, refl, sym, ap, ◌∙◌, subst, arith}
 use Rattle.std.proofs.lemmas.Bool.{cond-true, cond-false, eq-eqb, ne_eqb}
 use Rattle.std.proofs.lemmas.List.{length-map}
 use Rattle.ff_node.specs.Behaviour.{Behaviour}
@@ -9,7 +9,7 @@ use Rattle.ff_unit.specs.Stage.{StageState, opened_stage, opening_stage}
 use Rattle.ff_unit.specs.StageUnit.{stage_does}
 use Rattle.ff_unit.specs.Units.{Ran}
 use Rattle.ff_steps.specs.Chains.{Chained}
-use Rattle.ff_steps.specs.Core.{CoreState, parties, party, edge, gots_of, puts_of, IsSound}
+use Rattle.ff_steps.specs.Core.{CoreState, party, edge, gots_of, puts_of, IsSound}
 use Rattle.ff_steps.specs.Links.{gots_at, puts_at}
 use Rattle.ff_steps.specs.Parties.{Party, AsUnit, AsFeeder, AsDrainer, PartyRan, FeederStep, DrainerStep, opening_feeder, opening_drainer}
 use Rattle.ff_steps.specs.Pipelines.{IsPipelineOf}
