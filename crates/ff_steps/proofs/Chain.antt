@@ -1,5 +1,5 @@
 -- Stages one behind the other: each takes what the one before it put.
-use Rattle.std.proofs.Common.{◌≡◌, ℕ, suc, ◌+◌, Bool, true, List, [], ◌∷◌, ◌++◌, length, map, Some, refl, sym, ap, ◌∙◌, subst, arith}
+use Rattle.std.proofs.Common.{◌≡◌, Bool, true, List, [], ◌∷◌, ◌++◌, length, map, Some, refl, sym, ap, ◌∙◌, subst, arith}
 use Rattle.std.specs.List.{AllByRecursion}
 use Rattle.ff_rec.specs.Lines.{Rec}
 use Rattle.ff_rec.specs.Streams.{at, carried, closed, unaborted, GoesOn}
@@ -9,13 +9,9 @@ use Rattle.ff_node.specs.Runs.{Message, AllGoOn, HasOuts, FitsWhole}
 use Rattle.ff_port.specs.declared.answers.End.TheVariants.{Eos}
 use Rattle.ff_unit.specs.Stage.{StageState, opened_stage, opening_stage}
 use Rattle.ff_unit.specs.StageUnit.{stage_does}
-use Rattle.ff_unit.specs.Units.{IsUnit, Ran}
+use Rattle.ff_unit.specs.Units.{IsUnit}
+use Rattle.ff_steps.specs.Chains.{Passes, Chained}
 use Rattle.ff_steps.proofs.MessageLists.{GoesOn-front, closed-front}
-
--- these stages, from number `i` on, take from stream `i` and put on stream `i + 1`
-abbrev pub ChainRuns : {N : Type 0} → Behaviour N → (ℕ → List Message) → (ℕ → List Message) → List (StageState N) → ℕ → Type 0
-ChainRuns b got put [] i = Unit {0}
-ChainRuns b got put (u ∷ us) i = Ran (stage_does b) u (got i ∷ []) (put (suc i) ∷ []) × ChainRuns b got put us (suc i)
 
 -- they run these nodes
 abbrev pub RunNodes : {N : Type 0} → Behaviour N → Bool → List (StageState N) → List N → Type 0
@@ -57,43 +53,44 @@ module _ {N : Type 0} (b : Behaviour N) (keeps : Bool) where
   node-same : (u : StageState N) (o : N) → opening_stage b u ≡ opened_stage b o keeps → (xs : List Rec) → node b u.node xs ≡ node b o xs
   node-same u o e xs = ap (λ s. sent_from b s.node xs) e
 
-  module _ (facts : IsUnit (stage_does b)) (got put : ℕ → List Message) (inside : (i : ℕ) → (back : List Message) × (put i ≡ got i ++ back)) where
-    -- one stage whose in goes on to these records
-    GoesOn-unit : (u : StageState N) (o : N) (i : ℕ) → opening_stage b u ≡ opened_stage b o keeps → Ran (stage_does b) u (got i ∷ []) (put (suc i) ∷ [])
-        → (xs : List Rec) → GoesOn (unaborted (put i)) (carried xs) → GoesOn (unaborted (put (suc i))) (carried (node b o xs))
-    GoesOn-unit u o i made run xs g = from (facts.begins u (got i ∷ []) (put (suc i) ∷ []) run (carried xs ∷ []) (taken, tt))
+  module _ (facts : IsUnit (stage_does b)) where
+    -- one stage before which stands what goes on to these records
+    GoesOn-unit : (before : List Message) (u : StageState N) (o : N) (behind : List Message) → opening_stage b u ≡ opened_stage b o keeps → Passes (stage_does b) before u behind
+        → (xs : List Rec) → GoesOn (unaborted before) (carried xs) → GoesOn (unaborted behind) (carried (node b o xs))
+    GoesOn-unit before u o behind made passes xs g = from (facts.begins u (passes.got ∷ []) (behind ∷ []) passes.ran (carried xs ∷ []) (taken, tt))
       where
-        taken : GoesOn (unaborted (got i)) (carried xs)
-        taken = GoesOn-front (got i) (inside i).0 (carried xs) (subst (λ l. GoesOn (unaborted l) (carried xs)) (inside i).1 g)
+        taken : GoesOn (unaborted passes.got) (carried xs)
+        taken = GoesOn-front passes.got passes.left (carried xs) (subst (λ l. GoesOn (unaborted l) (carried xs)) passes.splits g)
 
-        from : HasOuts (FitsStage b u.node) (carried xs ∷ []) (put (suc i) ∷ []) → GoesOn (unaborted (put (suc i))) (carried (node b o xs))
-        from h = subst (λ l. GoesOn (unaborted (put (suc i))) l) (h.fits.unmarked xs refl ∙ ap carried (node-same u o made xs)) (first-goes_on (put (suc i)) h.outs h.goes_on)
+        from : HasOuts (FitsStage b u.node) (carried xs ∷ []) (behind ∷ []) → GoesOn (unaborted behind) (carried (node b o xs))
+        from h = subst (λ l. GoesOn (unaborted behind) l) (h.fits.unmarked xs refl ∙ ap carried (node-same u o made xs)) (first-goes_on behind h.outs h.goes_on)
 
     -- all of them
-    pub GoesOn-chain : (us : List (StageState N)) (os : List N) (i n : ℕ) → RunNodes b keeps us os → i + length us ≡ n → ChainRuns b got put us i
-        → (xs : List Rec) → GoesOn (unaborted (put i)) (carried xs) → GoesOn (unaborted (put n)) (carried (pipeline b os xs))
-    GoesOn-chain [] [] i n made e runs xs g = subst (λ k. GoesOn (unaborted (put k)) (carried xs)) (omega (arith, e)) g
-    GoesOn-chain [] (o ∷ os) i n made e runs xs g = absurd (cons≢nil (sym made))
-    GoesOn-chain (u ∷ us) [] i n made e runs xs g = absurd (cons≢nil made)
-    GoesOn-chain (u ∷ us) (o ∷ os) i n made e runs xs g =
-        GoesOn-chain us os (suc i) n (tail-same made) (omega (arith, e)) runs.1 (node b o xs) (GoesOn-unit u o i (head-same made) runs.0 xs g)
+    pub GoesOn-chain : (before : List Message) (us : List (StageState N)) (os : List N) (behind : List Message) → RunNodes b keeps us os → Chained (stage_does b) before us behind
+        → (xs : List Rec) → GoesOn (unaborted before) (carried xs) → GoesOn (unaborted behind) (carried (pipeline b os xs))
+    GoesOn-chain before [] [] behind made chained xs g = subst (λ l. GoesOn (unaborted l) (carried xs)) (sym chained) g
+    GoesOn-chain before [] (o ∷ os) behind made chained xs g = absurd (cons≢nil (sym made))
+    GoesOn-chain before (u ∷ us) [] behind made chained xs g = absurd (cons≢nil made)
+    GoesOn-chain before (u ∷ us) (o ∷ os) behind made chained xs g =
+        GoesOn-chain chained.0 us os behind (tail-same made) chained.2 (node b o xs) (GoesOn-unit before u o chained.0 (head-same made) chained.1 xs g)
 
-    -- one stage that has ended with its in
-    pub closed-unit : (u : StageState N) (o : N) (i : ℕ) → opening_stage b u ≡ opened_stage b o keeps → Ran (stage_does b) u (got i ∷ []) (put (suc i) ∷ [])
-        → HasEnded u → (xs : List Rec) → put i ≡ closed (carried xs) → (got i ≡ closed (carried xs)) × (put (suc i) ≡ closed (carried (node b o xs)))
-    closed-unit u o i made run ended xs e = from (facts.whole u (got i ∷ []) (put (suc i) ∷ []) run ended.0 ended.1)
+    -- one stage that has ended with its in took all that stands before it
+    pub closed-unit : (before : List Message) (u : StageState N) (o : N) (behind : List Message) → opening_stage b u ≡ opened_stage b o keeps
+        → (passes : Passes (stage_does b) before u behind) → HasEnded u → (xs : List Rec) → before ≡ closed (carried xs)
+        → (passes.got ≡ closed (carried xs)) × (behind ≡ closed (carried (node b o xs)))
+    closed-unit before u o behind made passes ended xs e = from (facts.whole u (passes.got ∷ []) (behind ∷ []) passes.ran ended.0 ended.1)
       where
-        from : FitsWhole (FitsStage b u.node) (got i ∷ []) (put (suc i) ∷ []) → (got i ≡ closed (carried xs)) × (put (suc i) ≡ closed (carried (node b o xs)))
+        from : FitsWhole (FitsStage b u.node) (passes.got ∷ []) (behind ∷ []) → (passes.got ≡ closed (carried xs)) × (behind ≡ closed (carried (node b o xs)))
         from h =
-            let front : got i ≡ closed (at h.ins 0) = one-closed (got i) h.ins h.gots_are in
-            let all : at h.ins 0 ≡ carried xs = closed-front (at h.ins 0) (inside i).0 xs (ap (λ l. l ++ (inside i).0) (sym front) ∙ sym (inside i).1 ∙ e) in
-            (front ∙ ap closed all, one-closed (put (suc i)) h.outs h.puts_are ∙ ap closed (h.fits.unmarked xs all ∙ ap carried (node-same u o made xs)))
+            let front : passes.got ≡ closed (at h.ins 0) = one-closed passes.got h.ins h.gots_are in
+            let all : at h.ins 0 ≡ carried xs = closed-front (at h.ins 0) passes.left xs (ap (λ l. l ++ passes.left) (sym front) ∙ sym passes.splits ∙ e) in
+            (front ∙ ap closed all, one-closed behind h.outs h.puts_are ∙ ap closed (h.fits.unmarked xs all ∙ ap carried (node-same u o made xs)))
 
     -- all of them
-    pub closed-chain : (us : List (StageState N)) (os : List N) (i n : ℕ) → RunNodes b keeps us os → i + length us ≡ n → ChainRuns b got put us i
-        → AllByRecursion HasEnded us → (xs : List Rec) → put i ≡ closed (carried xs) → put n ≡ closed (carried (pipeline b os xs))
-    closed-chain [] [] i n made e runs ended xs c = subst (λ k. put k ≡ closed (carried xs)) (omega (arith, e)) c
-    closed-chain [] (o ∷ os) i n made e runs ended xs c = absurd (cons≢nil (sym made))
-    closed-chain (u ∷ us) [] i n made e runs ended xs c = absurd (cons≢nil made)
-    closed-chain (u ∷ us) (o ∷ os) i n made e runs ended xs c =
-        closed-chain us os (suc i) n (tail-same made) (omega (arith, e)) runs.1 ended.1 (node b o xs) (closed-unit u o i (head-same made) runs.0 ended.0 xs c).1
+    pub closed-chain : (before : List Message) (us : List (StageState N)) (os : List N) (behind : List Message) → RunNodes b keeps us os → Chained (stage_does b) before us behind
+        → AllByRecursion HasEnded us → (xs : List Rec) → before ≡ closed (carried xs) → behind ≡ closed (carried (pipeline b os xs))
+    closed-chain before [] [] behind made chained ended xs e = chained ∙ e
+    closed-chain before [] (o ∷ os) behind made chained ended xs e = absurd (cons≢nil (sym made))
+    closed-chain before (u ∷ us) [] behind made chained ended xs e = absurd (cons≢nil made)
+    closed-chain before (u ∷ us) (o ∷ os) behind made chained ended xs e =
+        closed-chain chained.0 us os behind (tail-same made) chained.2 ended.1 (node b o xs) (closed-unit before u o chained.0 (head-same made) chained.1 ended.0 xs e).1

@@ -1,5 +1,5 @@
 -- What stages one behind the other rejected, once they have ended.
-use Rattle.std.proofs.Common.{◌≡◌, ℕ, suc, ◌+◌, ◌-◌, ◌^◌, min, Bool, true, List, [], ◌∷◌, ◌++◌, length, flat_map, refl, sym, ap, ap₂, ◌∙◌, arith}
+use Rattle.std.proofs.Common.{◌≡◌, ℕ, ◌+◌, ◌-◌, ◌^◌, min, Bool, true, List, [], ◌∷◌, ◌++◌, length, flat_map, refl, sym, ap, ap₂, ◌∙◌, arith}
 use Rattle.std.proofs.lemmas.List.{append-nil, length-append}
 use Rattle.std.specs.List.{AllByRecursion}
 use Rattle.ff_rec.specs.Lines.{Rec}
@@ -11,8 +11,9 @@ use Rattle.ff_node.specs.Runs.{Message}
 use Rattle.ff_node.specs.Sends.{counted}
 use Rattle.ff_unit.specs.Stage.{StageState, opened_stage, opening_stage}
 use Rattle.ff_unit.specs.StageUnit.{stage_does}
-use Rattle.ff_unit.specs.Units.{IsUnit, Ran, HasRejects}
-use Rattle.ff_steps.proofs.Chain.{ChainRuns, RunNodes, HasEnded, head-same, tail-same, cons≢nil, closed-unit}
+use Rattle.ff_unit.specs.Units.{IsUnit, HasRejects}
+use Rattle.ff_steps.specs.Chains.{Passes, Chained}
+use Rattle.ff_steps.proofs.Chain.{RunNodes, HasEnded, head-same, tail-same, cons≢nil, closed-unit}
 use Rattle.ff_steps.proofs.MessageLists.{items-closed}
 
 -- how many records they rejected
@@ -28,31 +29,32 @@ module _ {N : Type 0} (b : Behaviour N) (keeps : Bool) where
   node_rejected-same : (u : StageState N) (o : N) → opening_stage b u ≡ opened_stage b o keeps → (xs : List Rec) → node_rejected b u.node xs ≡ node_rejected b o xs
   node_rejected-same u o e xs = ap (λ s. rejected_from b s.node xs) e
 
-  module _ (facts : IsUnit (stage_does b)) (got put : ℕ → List Message) (inside : (i : ℕ) → (back : List Message) × (put i ≡ got i ++ back)) where
+  module _ (facts : IsUnit (stage_does b)) where
     -- what one of them rejected
-    rejects-unit : (u : StageState N) (o : N) (i : ℕ) → opening_stage b u ≡ opened_stage b o keeps → Ran (stage_does b) u (got i ∷ []) (put (suc i) ∷ [])
-        → HasEnded u → (xs : List Rec) → put i ≡ closed (carried xs)
+    rejects-unit : (before : List Message) (u : StageState N) (o : N) (behind : List Message) → opening_stage b u ≡ opened_stage b o keeps → Passes (stage_does b) before u behind
+        → HasEnded u → (xs : List Rec) → before ≡ closed (carried xs)
         → (u.rejects ≡ counted (node_rejected_count b o xs)) × (keeps ≡ true → u.taken ++ u.kept ≡ node_rejected b o xs)
-    rejects-unit u o i made run ended xs c = from (facts.rejects_are u (got i ∷ []) (put (suc i) ∷ []) run ended.0 ended.1)
+    rejects-unit before u o behind made passes ended xs e = from (facts.rejects_are u (passes.got ∷ []) (behind ∷ []) passes.ran ended.0 ended.1)
       where
-        all : items (got i) ≡ xs
-        all = ap items (closed-unit b keeps facts got put inside u o i made run ended xs c).0 ∙ items-closed xs
+        all : items passes.got ≡ xs
+        all = ap items (closed-unit b keeps facts before u o behind made passes ended xs e).0 ∙ items-closed xs
 
-        same : node_rejected b u.node (items (got i)) ≡ node_rejected b o xs
+        same : node_rejected b u.node (items passes.got) ≡ node_rejected b o xs
         same = ap (node_rejected b u.node) all ∙ node_rejected-same u o made xs
 
-        from : HasRejects (stage_does b) u (got i ∷ []) → (u.rejects ≡ counted (node_rejected_count b o xs)) × (keeps ≡ true → u.taken ++ u.kept ≡ node_rejected b o xs)
+        from : HasRejects (stage_does b) u (passes.got ∷ []) → (u.rejects ≡ counted (node_rejected_count b o xs)) × (keeps ≡ true → u.taken ++ u.kept ≡ node_rejected b o xs)
         from r = (r.number_is ∙ ap (λ l. counted (length l)) same, λ k. r.kept_are (ap (λ s. s.keeps) made ∙ k) ∙ same)
 
     -- what all of them hold, behind what was taken out
-    pub kept-chain : (us : List (StageState N)) (os : List N) (i : ℕ) → RunNodes b keeps us os → ChainRuns b got put us i
-        → AllByRecursion HasEnded us → keeps ≡ true → (xs : List Rec) → put i ≡ closed (carried xs)
+    pub kept-chain : (before : List Message) (us : List (StageState N)) (os : List N) (behind : List Message) → RunNodes b keeps us os → Chained (stage_does b) before us behind
+        → AllByRecursion HasEnded us → keeps ≡ true → (xs : List Rec) → before ≡ closed (carried xs)
         → Same (flat_map (λ u. u.taken) us ++ flat_map (λ u. u.kept) us) (pipeline_rejected b os xs)
-    kept-chain [] [] i made runs ended k xs c = Same-refl []
-    kept-chain [] (o ∷ os) i made runs ended k xs c = absurd (cons≢nil (sym made))
-    kept-chain (u ∷ us) [] i made runs ended k xs c = absurd (cons≢nil made)
-    kept-chain (u ∷ us) (o ∷ os) i made runs ended k xs c = join ((rejects-unit u o i (head-same made) runs.0 ended.0 xs c).1 k)
-        (kept-chain us os (suc i) (tail-same made) runs.1 ended.1 k (node b o xs) (closed-unit b keeps facts got put inside u o i (head-same made) runs.0 ended.0 xs c).1)
+    kept-chain before [] [] behind made chained ended k xs e = Same-refl []
+    kept-chain before [] (o ∷ os) behind made chained ended k xs e = absurd (cons≢nil (sym made))
+    kept-chain before (u ∷ us) [] behind made chained ended k xs e = absurd (cons≢nil made)
+    kept-chain before (u ∷ us) (o ∷ os) behind made chained ended k xs e = join ((rejects-unit before u o chained.0 (head-same made) chained.1 ended.0 xs e).1 k)
+        (kept-chain chained.0 us os behind (tail-same made) chained.2 ended.1 k (node b o xs)
+        (closed-unit b keeps facts before u o chained.0 (head-same made) chained.1 ended.0 xs e).1)
       where
         join : u.taken ++ u.kept ≡ node_rejected b o xs
             → Same (flat_map (λ v. v.taken) us ++ flat_map (λ v. v.kept) us) (pipeline_rejected b os (node b o xs))
@@ -72,22 +74,23 @@ module _ {N : Type 0} (b : Behaviour N) (keeps : Bool) where
         }
 
     -- of one stage in their order
-    pub kept-one : (u : StageState N) (o : N) (i : ℕ) → RunNodes b keeps (u ∷ []) (o ∷ []) → ChainRuns b got put (u ∷ []) i
-        → AllByRecursion HasEnded (u ∷ []) → keeps ≡ true → (xs : List Rec) → put i ≡ closed (carried xs)
+    pub kept-one : (before : List Message) (u : StageState N) (o : N) (behind : List Message) → RunNodes b keeps (u ∷ []) (o ∷ []) → Chained (stage_does b) before (u ∷ []) behind
+        → AllByRecursion HasEnded (u ∷ []) → keeps ≡ true → (xs : List Rec) → before ≡ closed (carried xs)
         → (u.taken ++ []) ++ (u.kept ++ []) ≡ pipeline_rejected b (o ∷ []) xs
-    kept-one u o i made runs ended k xs c =
+    kept-one before u o behind made chained ended k xs e =
         ap₂ (λ l m. l ++ m) (append-nil u.taken) (append-nil u.kept)
-        ∙ (rejects-unit u o i (head-same made) runs.0 ended.0 xs c).1 k ∙ sym (append-nil (node_rejected b o xs))
+        ∙ (rejects-unit before u o chained.0 (head-same made) chained.1 ended.0 xs e).1 k ∙ sym (append-nil (node_rejected b o xs))
 
     -- how many all of them rejected
-    pub rejects-chain : (us : List (StageState N)) (os : List N) (i : ℕ) → RunNodes b keeps us os → ChainRuns b got put us i
-        → AllByRecursion HasEnded us → (xs : List Rec) → put i ≡ closed (carried xs)
+    pub rejects-chain : (before : List Message) (us : List (StageState N)) (os : List N) (behind : List Message) → RunNodes b keeps us os → Chained (stage_does b) before us behind
+        → AllByRecursion HasEnded us → (xs : List Rec) → before ≡ closed (carried xs)
         → counted (rejects_of us) ≡ counted (length (pipeline_rejected b os xs))
-    rejects-chain [] [] i made runs ended xs c = refl
-    rejects-chain [] (o ∷ os) i made runs ended xs c = absurd (cons≢nil (sym made))
-    rejects-chain (u ∷ us) [] i made runs ended xs c = absurd (cons≢nil made)
-    rejects-chain (u ∷ us) (o ∷ os) i made runs ended xs c =
-        ap (λ n. counted (n + rejects_of us)) (rejects-unit u o i (head-same made) runs.0 ended.0 xs c).0
+    rejects-chain before [] [] behind made chained ended xs e = refl
+    rejects-chain before [] (o ∷ os) behind made chained ended xs e = absurd (cons≢nil (sym made))
+    rejects-chain before (u ∷ us) [] behind made chained ended xs e = absurd (cons≢nil made)
+    rejects-chain before (u ∷ us) (o ∷ os) behind made chained ended xs e =
+        ap (λ n. counted (n + rejects_of us)) (rejects-unit before u o chained.0 (head-same made) chained.1 ended.0 xs e).0
         ∙ min-sum (node_rejected_count b o xs) (rejects_of us) (length (pipeline_rejected b os (node b o xs))) (2 ^ 64 - 1)
-        (rejects-chain us os (suc i) (tail-same made) runs.1 ended.1 (node b o xs) (closed-unit b keeps facts got put inside u o i (head-same made) runs.0 ended.0 xs c).1)
+        (rejects-chain chained.0 us os behind (tail-same made) chained.2 ended.1 (node b o xs)
+        (closed-unit b keeps facts before u o chained.0 (head-same made) chained.1 ended.0 xs e).1)
         ∙ ap counted (sym (length-append (node_rejected b o xs) (pipeline_rejected b os (node b o xs))))

@@ -1,13 +1,13 @@
 -- A step of a party, over the parts of a core, is a step of the core.
-use Rattle.std.proofs.Common.{◌≡◌, ◌≢◌, ℕ, zero, suc, ◌+◌, ◌<◌, List, [], ◌∷◌, ◌++◌, length, map, slice_index, slice_index_or, slice_set, refl, sym, ap, ◌∙◌, subst, arith, get_or-set_same, length-set, length-append}
+use Rattle.std.proofs.Common.{◌≡◌, ℕ, zero, suc, ◌+◌, ◌<◌, List, [], ◌∷◌, ◌++◌, length, map, slice_index, slice_index_or, slice_set, refl, sym, ap, ◌∙◌, subst, arith, get_or-set_same, length-set, length-append}
 use Rattle.std.proofs.Math.Seq.{map-set_same}
 use Rattle.std.proofs.lemmas.List.{get_or_append_left}
 use Rattle.ff_rec.specs.Lines.{Rec}
-use Rattle.ff_node.specs.Runs.{Message, Act, Took, Gave, Refused, Idle, Told, Handed, took, gave}
+use Rattle.ff_node.specs.Runs.{Act, Took, Gave, Refused, Idle, Told, Handed, took, gave}
 use Rattle.ff_port.specs.Queues.{Queue, put_of, room_of}
 use Rattle.ff_unit.specs.Units.{Doing, IsUnit, Ran}
 use Rattle.ff_steps.specs.Core.{CoreState, parties, party, gots_of, puts_of, IsSound}
-use Rattle.ff_steps.specs.Events.{CoreStep, Stalls, known_at}
+use Rattle.ff_steps.specs.Events.{CoreStep, Stalls}
 use Rattle.ff_steps.specs.Links.{edge_at, gots_at, puts_at, known_over}
 use Rattle.ff_steps.specs.Moves.{UnitMoves, FeederMoves, DrainerMoves, feeder_of, drainer_of}
 use Rattle.ff_steps.specs.Parties.{Party, Feeder, Drainer, AsUnit, AsFeeder, AsDrainer, PartyStep, PartyRan, FeederStep, DrainerStep}

@@ -17,8 +17,11 @@ pub mod FeederRuns
 pub mod DrainerRuns
 pub mod Chain
 pub mod ChainRejects
+pub mod ChainSnoc
+pub mod ChainTook
 pub mod PipelineWiring
 pub mod PipelineRuns
 pub mod PipelineBegins
 pub mod PipelineEnds
 pub mod PipelineOpened
+pub mod UnitsOpened

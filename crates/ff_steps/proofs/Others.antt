@@ -3,7 +3,7 @@ use Rattle.std.proofs.Common.{◌≡◌, ◌≢◌, inl, inr, ℕ, zero, suc, �
 use Rattle.ff_node.specs.Runs.{Act, Took, Gave, Refused, Idle, Told, Handed}
 use Rattle.ff_port.specs.declared.answers.Step.{Step}
 use Rattle.ff_port.specs.declared.answers.Step.TheVariants.{Waits}
-use Rattle.ff_unit.specs.Units.{Doing, Known, Answers, WaitsOnly, idle_answer}
+use Rattle.ff_unit.specs.Units.{Doing, Answers, WaitsOnly, idle_answer}
 use Rattle.ff_steps.specs.Core.{CoreState}
 use Rattle.ff_steps.specs.Events.{UnitIdles, Stalls, known_at}
 use Rattle.ff_steps.specs.Moves.{IdlesOnly}

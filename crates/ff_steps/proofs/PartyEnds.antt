@@ -7,7 +7,6 @@ use Rattle.ff_port.specs.declared.answers.End.{End}
 use Rattle.ff_unit.specs.Units.{Doing, IsUnit, end_of}
 use Rattle.ff_steps.specs.Core.{CoreState, IsSound, all_ended, is_cut_off}
 use Rattle.ff_steps.specs.Parties.{Feeder, Drainer, AsUnit, AsFeeder, AsDrainer, has_ended}
-use Rattle.ff_steps.proofs.PartyAt.{length-parties}
 use Rattle.ff_steps.proofs.UnitRan.{Ran-unit}
 
 -- a unit that has ended has an end

@@ -1,5 +1,5 @@
 -- What the drainer of a pipeline kept begins what its nodes send for the input.
-use Rattle.std.proofs.Common.{◌≡◌, Bool, false, List, [], ◌∷◌, ◌++◌, length, refl, sym, ap, ◌∙◌, subst, append_assoc, arith}
+use Rattle.std.proofs.Common.{◌≡◌, Bool, false, List, [], ◌∷◌, ◌++◌, ap, ◌∙◌, append_assoc}
 use Rattle.ff_rec.specs.Lines.{Rec}
 use Rattle.ff_rec.specs.Streams.{items, carried, unaborted, GoesOn}
 use Rattle.ff_node.specs.Behaviour.{Behaviour, pipeline}
@@ -13,19 +13,15 @@ use Rattle.ff_steps.proofs.Chain.{GoesOn-chain}
 use Rattle.ff_steps.proofs.DrainerRuns.{items-drainer}
 use Rattle.ff_steps.proofs.FeederRuns.{GoesOn-feeder}
 use Rattle.ff_steps.proofs.MessageLists.{GoesOn-front, GoesOn-items}
-use Rattle.ff_steps.proofs.PipelineRuns.{pipeline_edge, pipeline_edge-first, pipeline_edge-last, got_before, put_before, run_nodes, length-units, ChainRuns-pipeline, run-feeder, run-drainer}
+use Rattle.ff_steps.proofs.PipelineRuns.{run_nodes, Chained-pipeline, run-feeder, run-drainer}
 use Rattle.ff_steps.proofs.Schedules.{MadeOfSame}
 
 module _ {N : Type 0} (b : Behaviour N) (laws : IsUnit (stage_does b)) (nodes : List N) (keeps : Bool) (c : CoreState (StageState N))
     (is_pipeline : IsPipelineOf b nodes keeps c) (sound : IsSound (stage_does b) c) where
   -- what was put on the last edge goes on to all that the nodes send
   GoesOn-last : GoesOn (unaborted (put_of (edge c 1))) (carried (pipeline b nodes c.input))
-  GoesOn-last =
-      subst (λ e. GoesOn (unaborted (put_of (edge c e))) (carried (pipeline b nodes c.input))) (pipeline_edge-last (length nodes))
-      (GoesOn-chain b keeps laws (got_before c (length nodes)) (put_before c (length nodes)) (λ i. ((edge c (pipeline_edge (length nodes) i)).inside, refl)) c.units nodes 0 (length nodes)
-      (run_nodes b nodes keeps c is_pipeline sound) (omega (arith, length-units b nodes keeps c is_pipeline sound)) (ChainRuns-pipeline b nodes keeps c is_pipeline sound) c.input
-      (subst (λ e. GoesOn (unaborted (put_of (edge c e))) (carried c.input)) (sym (pipeline_edge-first (length nodes) is_pipeline.some))
-      (GoesOn-feeder c.input c.feeder [] (put_of (edge c 0) ∷ []) (run-feeder b nodes keeps c is_pipeline sound))))
+  GoesOn-last = GoesOn-chain b keeps laws (put_of (edge c 0)) c.units nodes (put_of (edge c 1)) (run_nodes b nodes keeps c is_pipeline sound)
+      (Chained-pipeline b nodes keeps c is_pipeline sound) c.input (GoesOn-feeder c.input c.feeder [] (put_of (edge c 0) ∷ []) (run-feeder b nodes keeps c is_pipeline sound))
 
   Begins-pipeline : Begins b nodes c
   Begins-pipeline =

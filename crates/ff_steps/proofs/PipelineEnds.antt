@@ -1,5 +1,5 @@
 -- What a pipeline whose parties have all ended gave.
-use Rattle.std.proofs.Common.{◌≡◌, ℕ, suc, ◌≤◌, Bool, true, false, ◌&&◌, ◌||◌, Option, None, Some, IsSome, List, [], ◌∷◌, ◌++◌, length, map, sum_by, flat_map, refl, sym, ap, ◌∙◌, arith}
+use Rattle.std.proofs.Common.{◌≡◌, Bool, true, false, ◌&&◌, ◌||◌, Option, None, Some, IsSome, List, [], ◌∷◌, ◌++◌, length, map, sum_by, flat_map, refl, sym, ap, ◌∙◌, arith}
 use Rattle.std.specs.List.{AllByRecursion, list_all, list_any}
 use Rattle.std.proofs.lemmas.Bool.{and_parts, or_parts, both_ways}
 use Rattle.std.proofs.lemmas.List.{append-nil}
@@ -18,15 +18,16 @@ use Rattle.ff_unit.specs.MessageLaws.{items-append}
 use Rattle.ff_unit.specs.Stage.{StageState}
 use Rattle.ff_unit.specs.StageUnit.{stage_does}
 use Rattle.ff_unit.specs.Units.{Doing, IsUnit}
+use Rattle.ff_steps.specs.Chains.{Chained}
 use Rattle.ff_steps.specs.Core.{CoreState, edge, IsSound, all_ended, is_cut_off, is_short, held_rejects, taken_rejects}
 use Rattle.ff_steps.specs.Parties.{Feeder, Drainer, AsUnit, AsFeeder, AsDrainer, has_ended}
 use Rattle.ff_steps.specs.Pipelines.{IsPipelineOf}
-use Rattle.ff_steps.proofs.Chain.{ChainRuns, RunNodes, HasEnded, closed-chain}
+use Rattle.ff_steps.proofs.Chain.{RunNodes, HasEnded, closed-chain}
 use Rattle.ff_steps.proofs.ChainRejects.{rejects_of, kept-chain, kept-one, rejects-chain}
 use Rattle.ff_steps.proofs.DrainerRuns.{IsEnded, items-drainer, IsEnded-drainer}
 use Rattle.ff_steps.proofs.FeederRuns.{at-feeder_done}
 use Rattle.ff_steps.proofs.MessageLists.{items-carried, ended-front}
-use Rattle.ff_steps.proofs.PipelineRuns.{pipeline_edge, pipeline_edge-first, pipeline_edge-last, got_before, put_before, run_nodes, length-units, ChainRuns-pipeline, run-feeder, run-drainer}
+use Rattle.ff_steps.proofs.PipelineRuns.{run_nodes, length-units, Chained-pipeline, run-feeder, run-drainer}
 
 -- an end that is decided and isn't cut off is Eos
 fin-eos : (fin : Option End) → IsSome fin → is_cut_off fin ≡ false → fin ≡ Some Eos
@@ -55,23 +56,20 @@ items-end AbortMsg end = refl
 
 module _ {N : Type 0} (b : Behaviour N) (laws : IsUnit (stage_does b)) where
   -- stages that have ended, none of them cut off, have ended with their ins
-  ended-chain : (got put : ℕ → List Message) (us : List (StageState N)) (i : ℕ) → ChainRuns b got put us i → AllByRecursion (λ u. u.done ≡ true) us
+  ended-chain : (before : List Message) (us : List (StageState N)) (behind : List Message) → Chained (stage_does b) before us behind → AllByRecursion (λ u. u.done ≡ true) us
       → list_any (λ u. u.done && is_cut_off u.fin) us ≡ false → AllByRecursion HasEnded us
-  ended-chain got put [] i runs done whole = tt
-  ended-chain got put (u ∷ us) i runs done whole =
+  ended-chain before [] behind chained done whole = tt
+  ended-chain before (u ∷ us) behind chained done whole =
       let p : ((u.done && is_cut_off u.fin) ≡ false) × (list_any (λ v. v.done && is_cut_off v.fin) us ≡ false) =
       or_parts (u.done && is_cut_off u.fin) (list_any (λ v. v.done && is_cut_off v.fin) us) whole in (
-        (done.0, fin-eos u.fin (laws.ends u (got i ∷ []) (put (suc i) ∷ []) runs.0 done.0) (ap (λ d. d && is_cut_off u.fin) (sym done.0) ∙ p.0)),
-        ended-chain got put us (suc i) runs.1 done.1 p.1,
+        (done.0, fin-eos u.fin (laws.ends u (chained.1.got ∷ []) (chained.0 ∷ []) chained.1.ran done.0) (ap (λ d. d && is_cut_off u.fin) (sym done.0) ∙ p.0)),
+        ended-chain chained.0 us behind chained.2 done.1 p.1,
       )
 
   module _ (nodes : List N) (keeps : Bool) (c : CoreState (StageState N)) (is_pipeline : IsPipelineOf b nodes keeps c) (sound : IsSound (stage_does b) c)
       (ended : all_ended (stage_does b) c ≡ true) (whole : is_short (stage_does b) c ≡ false) where
     parts : AllByRecursion (λ u. u.done ≡ true) c.units × ((c.feeder.done ≡ true) × (c.drainer.done ≡ true))
     parts = ended-parts (stage_does b) c.units c.feeder c.drainer ended
-
-    inside : (i : ℕ) → (back : List Message) × (put_before c (length nodes) i ≡ got_before c (length nodes) i ++ back)
-    inside i = ((edge c (pipeline_edge (length nodes) i)).inside, refl)
 
     -- no party was refused memory
     whole-parts : (list_any (λ u. u.done && is_cut_off u.fin) c.units ≡ false) × ((c.feeder.refused ≡ false) × (c.drainer.refused ≡ false))
@@ -81,18 +79,16 @@ module _ {N : Type 0} (b : Behaviour N) (laws : IsUnit (stage_does b)) where
         (p.0, or_parts c.feeder.refused c.drainer.refused p.1)
 
     units-ended : AllByRecursion HasEnded c.units
-    units-ended = ended-chain (got_before c (length nodes)) (put_before c (length nodes)) c.units 0 (ChainRuns-pipeline b nodes keeps c is_pipeline sound) parts.0 whole-parts.0
+    units-ended = ended-chain (put_of (edge c 0)) c.units (put_of (edge c 1)) (Chained-pipeline b nodes keeps c is_pipeline sound) parts.0 whole-parts.0
 
     -- the first unit was given the whole input
-    first-closed : put_before c (length nodes) 0 ≡ closed (carried c.input)
-    first-closed = ap (λ e. put_of (edge c e)) (pipeline_edge-first (length nodes) is_pipeline.some)
-        ∙ at-feeder_done c.input c.feeder [] (put_of (edge c 0) ∷ []) (run-feeder b nodes keeps c is_pipeline sound) parts.1.0 whole-parts.1.0
+    first-closed : put_of (edge c 0) ≡ closed (carried c.input)
+    first-closed = at-feeder_done c.input c.feeder [] (put_of (edge c 0) ∷ []) (run-feeder b nodes keeps c is_pipeline sound) parts.1.0 whole-parts.1.0
 
     -- the drainer was given the whole answer
     last-closed : put_of (edge c 1) ≡ closed (carried (pipeline b nodes c.input))
-    last-closed = ap (λ e. put_of (edge c e)) (sym (pipeline_edge-last (length nodes)))
-        ∙ closed-chain b keeps laws (got_before c (length nodes)) (put_before c (length nodes)) inside c.units nodes 0 (length nodes) (run_nodes b nodes keeps c is_pipeline sound)
-        (omega (arith, length-units b nodes keeps c is_pipeline sound)) (ChainRuns-pipeline b nodes keeps c is_pipeline sound) units-ended c.input first-closed
+    last-closed = closed-chain b keeps laws (put_of (edge c 0)) c.units nodes (put_of (edge c 1)) (run_nodes b nodes keeps c is_pipeline sound)
+        (Chained-pipeline b nodes keeps c is_pipeline sound) units-ended c.input first-closed
 
     -- and took all of it
     items-last : items (edge c 1).got ≡ pipeline b nodes c.input
@@ -114,27 +110,25 @@ module _ {N : Type 0} (b : Behaviour N) (laws : IsUnit (stage_does b)) where
 
     -- the rejects that are held, behind those that were taken out
     pub held_rejects-ended : keeps ≡ true → Same (taken_rejects (stage_does b) c ++ held_rejects (stage_does b) c) (pipeline_rejected b nodes c.input)
-    held_rejects-ended kept = kept-chain b keeps laws (got_before c (length nodes)) (put_before c (length nodes)) inside c.units nodes 0 (run_nodes b nodes keeps c is_pipeline sound)
-        (ChainRuns-pipeline b nodes keeps c is_pipeline sound) units-ended kept c.input first-closed
+    held_rejects-ended kept = kept-chain b keeps laws (put_of (edge c 0)) c.units nodes (put_of (edge c 1)) (run_nodes b nodes keeps c is_pipeline sound)
+        (Chained-pipeline b nodes keeps c is_pipeline sound) units-ended kept c.input first-closed
 
     -- in their order where there is one node
     pub held_rejects-one : keeps ≡ true → length nodes ≡ 1 → taken_rejects (stage_does b) c ++ held_rejects (stage_does b) c ≡ pipeline_rejected b nodes c.input
     held_rejects-one kept one =
-        of c.units nodes one (length-units b nodes keeps c is_pipeline sound) (run_nodes b nodes keeps c is_pipeline sound) (ChainRuns-pipeline b nodes keeps c is_pipeline sound) units-ended first-closed
+        of c.units nodes one (length-units b nodes keeps c is_pipeline sound) (run_nodes b nodes keeps c is_pipeline sound) (Chained-pipeline b nodes keeps c is_pipeline sound) units-ended
       where
-        of : (us : List (StageState N)) (os : List N) → length os ≡ 1 → length us ≡ length os → RunNodes b keeps us os → ChainRuns b (got_before c (length nodes)) (put_before c (length nodes)) us 0
-            → AllByRecursion HasEnded us → put_before c (length nodes) 0 ≡ closed (carried c.input)
-            → flat_map (λ u. u.taken) us ++ flat_map (λ u. u.kept) us ≡ pipeline_rejected b os c.input
-        of [] os n m made runs done first = absurd (omega (arith, n, m))
-        of (u ∷ us) [] n m made runs done first = absurd (omega (arith, n))
-        of (u ∷ us) (o ∷ p ∷ os) n m made runs done first = absurd (omega (arith, n))
-        of (u ∷ v ∷ us) (o ∷ []) n m made runs done first = absurd (omega (arith, m))
-        of (u ∷ []) (o ∷ []) n m made runs done first =
-            kept-one b keeps laws (got_before c (length nodes)) (put_before c (length nodes)) inside u o 0 made runs done kept c.input first
+        of : (us : List (StageState N)) (os : List N) → length os ≡ 1 → length us ≡ length os → RunNodes b keeps us os → Chained (stage_does b) (put_of (edge c 0)) us (put_of (edge c 1))
+            → AllByRecursion HasEnded us → flat_map (λ u. u.taken) us ++ flat_map (λ u. u.kept) us ≡ pipeline_rejected b os c.input
+        of [] os n m made chained done = absurd (omega (arith, n, m))
+        of (u ∷ us) [] n m made chained done = absurd (omega (arith, n))
+        of (u ∷ us) (o ∷ p ∷ os) n m made chained done = absurd (omega (arith, n))
+        of (u ∷ v ∷ us) (o ∷ []) n m made chained done = absurd (omega (arith, m))
+        of (u ∷ []) (o ∷ []) n m made chained done = kept-one b keeps laws (put_of (edge c 0)) u o (put_of (edge c 1)) made chained done kept c.input first-closed
 
     -- their number, as far as a count of 64 bits tells
     pub rejects-ended : counted (sum_by (λ u. u.rejects) c.units) ≡ counted (length (pipeline_rejected b nodes c.input))
     rejects-ended =
         ap counted (sym (is_sum_by rejects_of (λ u. u.rejects) refl (λ u us. refl) c.units))
-        ∙ rejects-chain b keeps laws (got_before c (length nodes)) (put_before c (length nodes)) inside c.units nodes 0 (run_nodes b nodes keeps c is_pipeline sound)
-        (ChainRuns-pipeline b nodes keeps c is_pipeline sound) units-ended c.input first-closed
+        ∙ rejects-chain b keeps laws (put_of (edge c 0)) c.units nodes (put_of (edge c 1)) (run_nodes b nodes keeps c is_pipeline sound)
+        (Chained-pipeline b nodes keeps c is_pipeline sound) units-ended c.input first-closed

@@ -8,13 +8,12 @@ use Rattle.ff_node.specs.Runs.{Message}
 use Rattle.ff_port.specs.Queues.{Queue, put_of, empty_queue}
 use Rattle.ff_unit.specs.Stage.{StageState, started, opened_stage, opening_stage}
 use Rattle.ff_unit.specs.StageUnit.{stage_does}
-use Rattle.ff_unit.specs.Units.{IsUnit, Ran}
-use Rattle.ff_steps.specs.Core.{CoreState, parties, party, gots_of, puts_of, IsSound, opened_pipeline}
+use Rattle.ff_unit.specs.Units.{Ran}
+use Rattle.ff_steps.specs.Core.{CoreState, party, gots_of, puts_of, IsSound, opened_pipeline}
 use Rattle.ff_steps.specs.Links.{edge_at, ends_at, gots_at, puts_at}
-use Rattle.ff_steps.specs.Moves.{feeder_of, drainer_of}
-use Rattle.ff_steps.specs.Parties.{Party, Feeder, Drainer, AsUnit, AsFeeder, AsDrainer, PartyRan, opening_feeder, opening_drainer}
-use Rattle.ff_steps.specs.Pipelines.{IsPipelineOf, IsGood}
-use Rattle.ff_steps.specs.Wiring.{Row, row_at, IsWired, feeder_row, drainer_row, unit_row, unit_rows, all_rows, pipeline_rows}
+use Rattle.ff_steps.specs.Parties.{Party, AsFeeder, AsDrainer, PartyRan, opening_feeder, opening_drainer}
+use Rattle.ff_steps.specs.Pipelines.{IsPipelineOf}
+use Rattle.ff_steps.specs.Wiring.{Row, IsWired, unit_row, unit_rows, all_rows, pipeline_rows}
 use Rattle.ff_steps.proofs.Chain.{head-same, tail-same}
 use Rattle.ff_steps.proofs.PartyAt.{length-parties, party-unit, party-feeder, party-drainer}
 use Rattle.ff_steps.proofs.PipelineWiring.{IsWired-pipeline, length-pipeline_rows, row_at-unit, row_at-feeder, row_at-drainer, three_kinds}

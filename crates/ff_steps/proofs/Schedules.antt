@@ -1,13 +1,12 @@
 -- What a schedule makes of a core, one event after the other.
 use Rattle.std.proofs.Common.{◌≡◌, ℕ, ◌+◌, ◌<◌, List, [], ◌∷◌, ◌++◌, length, take, get_or, refl, sym, ap, ◌∙◌, subst, inl, inr}
 use Rattle.std.proofs.lemmas.List.{take_more}
-use Rattle.ff_rec.specs.Lines.{Rec}
 use Rattle.std.specs.List.{flat_map}
 use Rattle.std.proofs.Common.{map}
 use Rattle.ff_node.specs.Runs.{Act, Took, Gave, Refused, Idle, Told, Handed}
-use Rattle.ff_unit.specs.Units.{Doing, IsUnit, taken_by}
-use Rattle.ff_steps.specs.Core.{CoreState, party, IsSound, taken_rejects}
-use Rattle.ff_steps.specs.Events.{Event, Follows, CoreStep, Stalls}
+use Rattle.ff_unit.specs.Units.{Doing, IsUnit}
+use Rattle.ff_steps.specs.Core.{CoreState, party, taken_rejects}
+use Rattle.ff_steps.specs.Events.{Event, Follows, Stalls}
 use Rattle.ff_steps.specs.Parties.{Party}
 use Rattle.ff_steps.proofs.SoundStep.{map-units_step}
 

@@ -2,10 +2,9 @@
 use Rattle.std.proofs.Common.{◌≡◌, ◌≢◌, ◌⊎◌, ℕ, suc, ◌+◌, ◌<◌, List, [], ◌∷◌, length, map, get_or, slice_index, refl, sym, ap, ap₂, ◌∙◌, subst, inl, inr, arith}
 use Rattle.std.proofs.lemmas.Bool.{cases_eq}
 use Rattle.ff_rec.specs.Lines.{Rec}
-use Rattle.ff_node.specs.Runs.{Act}
 use Rattle.ff_port.specs.Queues.{Queue, put_of}
 use Rattle.ff_unit.specs.Units.{Doing, IsUnit}
-use Rattle.ff_steps.specs.Core.{CoreState, parties, party, edge, gots_of, puts_of, IsSound}
+use Rattle.ff_steps.specs.Core.{CoreState, parties, party, gots_of, puts_of, IsSound}
 use Rattle.ff_steps.specs.Events.{CoreStep, EdgesKeep}
 use Rattle.ff_steps.specs.Links.{edge_at, ends_at}
 use Rattle.ff_steps.specs.Parties.{PartyRan}

@@ -1,10 +1,10 @@
 -- What the ports of a unit tell of a step, said of the edges.
-use Rattle.std.proofs.Common.{◌≡◌, ℕ, List, length, slice_index_or, slice_set, refl, sym, ap, subst}
+use Rattle.std.proofs.Common.{◌≡◌, ℕ, List, slice_index_or, slice_set, refl, sym, ap, subst}
 use Rattle.std.specs.Borrow.{GName}
 use Rattle.ff_rec.specs.Lines.{Rec}
 use Rattle.ff_port.specs.Queues.{Queue}
 use Rattle.ff_port.specs.declared.answers.Step.{Step}
-use Rattle.ff_unit.specs.Units.{Doing, Known, One, WaitsOnly, known}
+use Rattle.ff_unit.specs.Units.{Doing, One, WaitsOnly, known}
 use Rattle.ff_steps.specs.Links.{gots_at, puts_at, knowns_at, rooms_at, rest_of, RowLink, link_of}
 use Rattle.ff_steps.specs.Moves.{UnitMoves}
 use Rattle.ff_steps.specs.Wiring.{Row, IsPortRow}

@@ -1,7 +1,7 @@
 -- The run of a unit of a sound core.
-use Rattle.std.proofs.Common.{◌≡◌, ℕ, ◌<◌, List, length, get_or, subst, arith}
+use Rattle.std.proofs.Common.{ℕ, ◌<◌, length, get_or, subst, arith}
 use Rattle.ff_unit.specs.Units.{Doing, Ran}
-use Rattle.ff_steps.specs.Core.{CoreState, parties, party, gots_of, puts_of, IsSound}
+use Rattle.ff_steps.specs.Core.{CoreState, gots_of, puts_of, IsSound}
 use Rattle.ff_steps.specs.Parties.{PartyRan}
 use Rattle.ff_steps.proofs.PartyAt.{length-parties, party-unit}
 

@@ -3,7 +3,7 @@ use Rattle.std.specs.Prelude.{◌≡◌, ◌≢◌, ◌⊎◌, ◌≤◌, ◌<�
 use Rattle.ff_node.specs.Runs.{Act, Took, Gave, Refused, Idle, Told, Handed, took, gave}
 use Rattle.ff_port.specs.Queues.{put_of}
 use Rattle.ff_unit.specs.Units.{Doing, Known}
-use Rattle.ff_steps.specs.Core.{CoreState, parties, party, edge, gots_of, puts_of, IsSound}
+use Rattle.ff_steps.specs.Core.{CoreState, parties, party, edge, gots_of, puts_of}
 use Rattle.ff_steps.specs.Links.{known_over}
 use Rattle.ff_steps.specs.Parties.{Party, AsUnit, AsFeeder, AsDrainer, PartyStep, has_ended}
 use Rattle.ff_steps.specs.Wiring.{row_at}

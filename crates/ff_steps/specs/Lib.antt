@@ -8,3 +8,4 @@ pub mod Moves
 pub mod Rejects
 pub mod Seen
 pub mod Pipelines
+pub mod Units

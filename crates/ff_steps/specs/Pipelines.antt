@@ -1,5 +1,5 @@
 -- Cores of stages that stand one behind the other.
-use Rattle.std.specs.Prelude.{◌≡◌, ℕ, ◌≤◌, Bool, List, ◌++◌, map, length}
+use Rattle.std.specs.Prelude.{◌≡◌, ◌≤◌, Bool, List, ◌++◌, map, length}
 use Rattle.ff_rec.specs.Lines.{Rec}
 use Rattle.ff_node.specs.Behaviour.{Behaviour, pipeline}
 use Rattle.ff_unit.specs.Stage.{StageState, opened_stage}

@@ -12,10 +12,12 @@ mod row;
 mod row_ports;
 mod schedule;
 mod unit_step;
+mod units;
 
 pub use net_core::Core;
 pub use pipeline::run_pipeline;
 pub use schedule::run_schedule;
+pub use units::{NetUnit, make_units};
 
 #[cfg(test)]
 mod tests;

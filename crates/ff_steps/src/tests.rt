@@ -1,6 +1,7 @@
 // What no clause says: that memory is there, and that a schedule does its work.
 mod narrow;
 mod schedules;
+mod units;
 
 use crate::{Core, run_schedule};
 use ff_node::{Class, Next, Node, Records, Sends};

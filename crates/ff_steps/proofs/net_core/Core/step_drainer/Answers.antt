@@ -1,5 +1,5 @@
 -- The drainer's step is a step of the core.
-use Rattle.std.proofs.Common.{◌≡◌, ◌<◌, ◌≤◌, ◌+◌, suc, length, sym, ap, subst, arith}
+use Rattle.std.proofs.Common.{◌≡◌, ◌<◌, ◌+◌, suc, length, subst, arith}
 use Rattle.ff_steps.specs.Core.{CoreState, parties}
 use Rattle.ff_steps.specs.Events.{CoreStep}
 use Rattle.ff_steps.specs.Seen.{core_of}

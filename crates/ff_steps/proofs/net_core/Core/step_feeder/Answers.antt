@@ -1,5 +1,5 @@
 -- What an open feeder put is open, and its step is a step of the core.
-use Rattle.std.proofs.Common.{◌≡◌, ◌<◌, ◌≤◌, ◌+◌, length, sym, ap, subst, arith}
+use Rattle.std.proofs.Common.{◌<◌, length, subst, arith}
 use Rattle.ff_steps.specs.Core.{CoreState, parties}
 use Rattle.ff_steps.specs.Events.{CoreStep}
 use Rattle.ff_steps.specs.Links.{edge_at}

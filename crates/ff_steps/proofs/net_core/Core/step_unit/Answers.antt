@@ -1,5 +1,5 @@
 -- The unit has its run at its edges, and its step is a step of the core.
-use Rattle.std.proofs.Common.{◌≡◌, ◌<◌, ◌≤◌, ◌+◌, length, sym, ap, ◌∙◌, subst, arith, length-set}
+use Rattle.std.proofs.Common.{◌<◌, ◌≤◌, length, sym, subst, arith}
 use Rattle.ff_steps.specs.Core.{CoreState, parties}
 use Rattle.ff_steps.specs.Events.{CoreStep}
 use Rattle.ff_steps.specs.Seen.{core_of}

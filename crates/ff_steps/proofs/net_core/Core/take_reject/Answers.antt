@@ -1,5 +1,5 @@
 -- The unit that gave its reject made a step of its own.
-use Rattle.std.proofs.Common.{◌≡◌, ◌≤◌, length, map, sym, refl, subst, arith}
+use Rattle.std.proofs.Common.{◌≡◌, ◌≤◌, length, sym, refl, subst, arith}
 use Rattle.ff_steps.specs.Core.{CoreState, IsSound}
 use Rattle.ff_steps.specs.Seen.{core_of}
 use Rattle.ff_steps.proofs.CoreSteps.{core_of-units}

@@ -1,11 +1,11 @@
 -- A pipeline before its first event is at a good moment.
-use Rattle.std.proofs.Common.{◌≡◌, ◌≤◌, length, map, rules, sym, subst, arith, ap, ◌∙◌}
+use Rattle.std.proofs.Common.{◌≡◌, ◌≤◌, length, rules, sym, subst, arith, ap}
 use Rattle.std.proofs.lemmas.List.{length-map}
 use Rattle.ff_unit.specs.Stage.{opened_stage}
 use Rattle.ff_unit.specs.StageLaws.{IsUnit-stage}
 use Rattle.ff_unit.specs.StageUnit.{stage_does}
 use Rattle.ff_steps.specs.Core.{IsSound}
-use Rattle.ff_steps.specs.Pipelines.{IsPipelineOf, IsGood}
+use Rattle.ff_steps.specs.Pipelines.{IsPipelineOf}
 use Rattle.ff_steps.proofs.PipelineBegins.{IsGood-pipeline}
 use Rattle.ff_steps.proofs.PipelineOpened.{IsSound-opened, IsPipelineOf-opened, opened-parts}
 use Rattle.ff_steps.proofs.pipeline.Core+Stage+N.line.Goals as goal

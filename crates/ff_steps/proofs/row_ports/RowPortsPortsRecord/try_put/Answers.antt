@@ -1,6 +1,5 @@
 -- A put at one edge of the row.
-use Rattle.std.proofs.Common.{◌≡◌, ◌<◌, ◌∙◌, length, map, slice_index, refl, sym, ap}
-use Rattle.ff_port.specs.Queues.{put_of, room_of}
+use Rattle.std.proofs.Common.{◌<◌, ◌∙◌, length, map, slice_index, refl, ap}
 use Rattle.ff_steps.proofs.Rests.{link_of-put, put-got, edge_at-read}
 use Rattle.ff_steps.proofs.RowEnds.{low-puts, map-ends_told, ends_at-away, is_among-index, PutsAt-row, rooms-others, IsOpen-row}
 use Rattle.ff_steps.proofs.row_ports.RowPortsPortsRecord.try_put.Goals as goal

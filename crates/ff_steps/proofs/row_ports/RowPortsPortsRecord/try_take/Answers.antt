@@ -1,5 +1,5 @@
 -- A take at one edge of the row.
-use Rattle.std.proofs.Common.{◌≡◌, ◌<◌, ◌∙◌, length, map, slice_index, refl, sym, ap}
+use Rattle.std.proofs.Common.{◌<◌, ◌∙◌, length, map, slice_index, refl, sym, ap}
 use Rattle.ff_port.specs.Queues.{put_of, room_of}
 use Rattle.ff_steps.proofs.Rests.{link_of-take, taken-put, edge_at-read}
 use Rattle.ff_steps.proofs.RowEnds.{low-gots, map-ends_told, ends_at-away, is_among-index, TakesAt-row, knowns-others}
