@@ -1,4 +1,5 @@
 pub mod Pipelines
+pub mod Groups
 pub mod NodeSteps
 pub mod Sorting
 pub mod LevelSteps

@@ -21,6 +21,7 @@ use Rattle.ff_net.specs.Tree.{Tree, Trees, Leaf, Pipe, Comb, Farm, OFarm, A2a, W
 use Rattle.ff_net.proofs.Kept.{both-false}
 use Rattle.ff_mean.specs.Gathering.{HasRunRounds}
 use Rattle.ff_net.specs.Nodes.{nodes_in, nodes_through}
+use Rattle.ff_mean.proofs.Groups.{nodes_of-running}
 use Rattle.ff_mean.proofs.Pipelines.{is_pipeline, pipeline-opened, pipeline_rejected-opened}
 use Rattle.ff_mean.proofs.RoundLaws.{HasRunRounds-≡}
 
@@ -85,10 +86,6 @@ module _ {N : Type 0} (b : Behaviour N) where
   worker_plain (OFarm n s w) plain good = absurd (let h = plain.0 in cc)
   worker_plain (A2a n l r k t) plain good = absurd (let h = plain.0 in cc)
   worker_plain (Wrap n w p) plain good = absurd (let h = plain.0 in cc)
-
-  nodes_of-running : (os : List N) → nodes_of (running os) ≡ os
-  nodes_of-running [] = refl
-  nodes_of-running (o ∷ os) = ap (λ l. o ∷ l) (nodes_of-running os)
 
   module _ (keeps : KeepsKind b) where
     joined-plain : (os : List N) → AllPlain os → joined_class Plain (part_classes b (running (map b.opening os))) ≡ Plain

@@ -1,3 +1,4 @@
 pub mod Gathering
+pub mod Pipelines
 pub mod Rounds
 pub mod Runs

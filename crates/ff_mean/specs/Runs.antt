@@ -1,7 +1,6 @@
 -- What a run of a network on one thread answers, and the pipeline of nodes that a network without feedback is.
-use Rattle.std.specs.Prelude.{◌≡◌, ℕ, Bool, true, false, List, [], ◌∷◌, ◌++◌}
+use Rattle.std.specs.Prelude.{◌≡◌, ℕ, Bool, false, List}
 use Rattle.ff_rec.specs.Lines.{Rec}
-use Rattle.ff_rec.specs.Weights.{Same}
 use Rattle.ff_node.specs.Behaviour.{Behaviour, pipeline, pipeline_rejected}
 use Rattle.ff_net.specs.Forms.{has_wrap}
 pub use Rattle.ff_net.specs.Kept.{AreKept}

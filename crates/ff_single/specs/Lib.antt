@@ -1,2 +1,1 @@
-pub mod Pipelines
 pub mod Wholes

@@ -1,6 +1,6 @@
 // Nodes in a row, gathered into combs.
 ghost use Rattle.std.specs.Prelude.{◌≡◌, ◌<◌, ◌≤◌, ◌++◌, length, IfOk, OnOk};
-ghost use Rattle.ff_single.specs.Pipelines.{all_nodes};
+ghost use Rattle.ff_mean.specs.Pipelines.{all_nodes};
 
 use ff_node::{Comb, Node};
 use ff_rec::NoMemory;

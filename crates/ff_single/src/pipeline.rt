@@ -6,7 +6,7 @@ ghost use Rattle.ff_net.specs.Nodes.{nodes_in};
 ghost use Rattle.ff_stream.specs.Endings.{Ran, CountsInput, output_count};
 ghost use Rattle.ff_stream.specs.Jobs.{job};
 ghost use Rattle.ff_stream.specs.Streams.{streams};
-ghost use Rattle.ff_single.specs.Pipelines.{ArePipelineOf};
+ghost use Rattle.ff_mean.specs.Pipelines.{ArePipelineOf};
 
 use crate::groups::group;
 use crate::whole::run_whole;

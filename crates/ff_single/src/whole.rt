@@ -23,6 +23,9 @@ pub(crate) struct Whole<'a, N: Node> {
 }
 
 impl<'a, N: Node> Work<N> for Whole<'a, N> {
+    type Closer = ();
+
+    ghost use Rattle.std.specs.Prelude.{⊤};
     ghost use Rattle.ff_net.specs.Tree.{tree_of};
     ghost use Rattle.ff_stream.specs.Jobs.{job};
     ghost use Rattle.ff_single.specs.Wholes.{Gathers};
@@ -33,6 +36,10 @@ impl<'a, N: Node> Work<N> for Whole<'a, N> {
         j xs front };
 
     ghost halted = { λ j _ halt xs front. IsOpen j halt xs front };
+
+    ghost told = { λ _ _ _ _. ⊤ };
+
+    ghost closes = { λ _ _. ⊤ };
 
     fn take<O: Sink>(&mut self, r: Record, _sink: &mut O) -> Result<(), Halt> {
         Ok(self.records.push(r)?)
@@ -46,7 +53,12 @@ impl<'a, N: Node> Work<N> for Whole<'a, N> {
         false
     }
 
-    fn finish<O: Sink>(self, alloc: Global, sink: &mut O) -> Result<Report, RunFault> {
+    fn finish<O: Sink>(
+        self,
+        alloc: Global,
+        _by: &mut (),
+        sink: &mut O,
+    ) -> Result<Report, RunFault> {
         match run_one(alloc, self.checked, self.limit, self.keep, self.records)? {
             Outcome::Over => Err(RunFault::Tasks),
             Outcome::Done {
@@ -60,7 +72,7 @@ impl<'a, N: Node> Work<N> for Whole<'a, N> {
         }
     }
 
-    fn give_up(self) {}
+    fn give_up(self, _by: &mut ()) {}
 }
 
 /// Reads the whole input, computes what the network means for its records, and writes that.
@@ -83,5 +95,5 @@ pub(crate) fn run_whole<N: Node, I: Source, O: Sink>(
         keep,
         records: Records::new(alloc),
     };
-    run_work(alloc, checked.version(), whole, source, sink)
+    run_work(alloc, checked.version(), whole, &mut (), source, sink)
 }

@@ -10,7 +10,7 @@ use Rattle.ff_rec.specs.Lines.{Rec}
 use Rattle.ff_rec.specs.Reading.{Reading, opening, after, given, last_given}
 use Rattle.ff_net.specs.Versions.{line_bytes, input_bytes, limit_by, seen_by}
 use Rattle.ff_net.specs.declared.net.Version.{Version}
-use Rattle.ff_stream.specs.Endings.{Begun, CountsInput, IsCutShort, IsReadOut, Ran, Stopped, halted, records_of, stop_count}
+use Rattle.ff_stream.specs.Endings.{Begun, CountsInput, IsCutShort, IsReadOut, Ran, Stopped, Told, halted, records_of, stop_count}
 use Rattle.ff_stream.specs.Jobs.{Job}
 use Rattle.ff_stream.specs.Reads.{Reads, ReadsSome, StopsAt, last_of}
 use Rattle.ff_stream.specs.Streams.{Streams}
@@ -98,9 +98,9 @@ IsCutShort-none j s left taken = record {
   waits = λ wraps. inr (refl, refl);
 }
 
-module _ {N W : Type 0} (stands : Job N → W → List Rec → List ℕ → Type 0) (law : ReadingLaw) (v : Version) (w : W) (j : Job N) (is : j.version ≡ v) (at : stands j w [] []) (s : Streams) where
-  records-given : (got : List ℕ) → given (start v) got ++ last v got s.ended ≡ records_of j s got
-  records-given got = given-seen law v got s.ended ∙ ap (λ (u : Version). seen_by u got s.ended) (sym is)
+module _ {N W : Type 0} (stands : Job N → W → List Rec → List ℕ → Type 0) (law : ReadingLaw) (w : W) (j : Job N) (at : stands j w [] []) (s : Streams) where
+  records-given : (got : List ℕ) → given (start j.version) got ++ last j.version got s.ended ≡ records_of j s got
+  records-given got = given-seen law j.version got s.ended
 
   -- it broke off while there was more to read, or at the last line
   IsCutShort-opened : (halt : Halt) (got put : List ℕ) (xs others : List Rec) → Consumes s.left s.left_now got → xs ++ others ≡ records_of j s got
@@ -128,21 +128,21 @@ module _ {N W : Type 0} (stands : Job N → W → List Rec → List ℕ → Type
         IsCutShort-opened halt got halts.put xs others read all halts.taken
         (IsOpen-halts stands broken u stood broke w xs halt s.taken s.taken_now halts j [] [] at)
 
-    pub Ran-some : (halt : Halt) (r : Reading) → r ≡ start v → ReadsSome stands broken w r halt u s.left s.left_now s.taken s.taken_now → Ran j s (Err (halted halt))
+    pub Ran-some : (halt : Halt) (r : Reading) → r ≡ start j.version → ReadsSome stands broken w r halt u s.left s.left_now s.taken s.taken_now → Ran j s (Err (halted halt))
     Ran-some halt r begins some =
         Ran-halted j s halt
-        (IsCutShort-halts halt some.got (given (start v) some.got) (last v some.got s.ended) some.reads (records-given some.got)
-        (Halts-from stands broken w u (given r some.got) (given (start v) some.got) halt s.taken s.taken_now (ap (λ (q : Reading). given q some.got) begins) some.halts))
+        (IsCutShort-halts halt some.got (given (start j.version) some.got) (last j.version some.got s.ended) some.reads (records-given some.got)
+        (Halts-from stands broken w u (given r some.got) (given (start j.version) some.got) halt s.taken s.taken_now (ap (λ (q : Reading). given q some.got) begins) some.halts))
 
-  module _ (u : W) (r q : Reading) (begins : r ≡ start v) (stop : Stop) (mid : Option (List ℕ)) (so_far : Reads stands w r u q s.left s.left_now s.taken mid)
+  module _ (u : W) (r q : Reading) (begins : r ≡ start j.version) (stop : Stop) (mid : Option (List ℕ)) (so_far : Reads stands w r u q s.left s.left_now s.taken mid)
       (stops : StopsAt stop q.fault s.ended s.left_now) where
-    reader : q ≡ after (start v) so_far.got
+    reader : q ≡ after (start j.version) so_far.got
     reader = so_far.reader ∙ ap (λ (p : Reading). after p so_far.got) begins
 
     all-given : given r so_far.got ++ last_of stop q.line ≡ records_of j s so_far.got
     all-given =
-        ap (λ l. given r so_far.got ++ l) (last_of-stop v q so_far.got stop s.ended s.left_now reader stops)
-        ∙ ap (λ (p : Reading). given p so_far.got ++ last v so_far.got s.ended) begins
+        ap (λ l. given r so_far.got ++ l) (last_of-stop j.version q so_far.got stop s.ended s.left_now reader stops)
+        ∙ ap (λ (p : Reading). given p so_far.got ++ last j.version so_far.got s.ended) begins
         ∙ records-given so_far.got
 
     -- it broke off at the last line
@@ -162,7 +162,7 @@ module _ {N W : Type 0} (stands : Job N → W → List Rec → List ℕ → Type
           (Goes-trans stands w u x (given r so_far.got) (last_of stop q.line) s.taken mid behind so_far.goes goes)
 
       stopped : Stopped stop (limit_by j.version so_far.got) s.ended s.left_now
-      stopped = subst (λ (p : Version). Stopped stop (limit_by p so_far.got) s.ended s.left_now) (sym is) (Stopped-read law v q so_far.got stop s.ended s.left_now reader stops)
+      stopped = Stopped-read law j.version q so_far.got stop s.ended s.left_now reader stops
 
       read_out : IsReadOut j s so_far.got
       read_out = record { stop = stop; stops = stopped; counts = counts }
@@ -180,6 +180,13 @@ module _ {N W : Type 0} (stands : Job N → W → List Rec → List ℕ → Type
             reports = ends.reports;
             stops = stopped;
           }
+
+      -- and then its end told of what was read
+      pub Told-ended : (report : Report) (fact : Job N → List Rec → Type 0) → Finishes stands x behind s.taken_now (Ok report)
+          → ((k : Job N) (xs : List Rec) (front : List ℕ) → stands k x xs front → fact k xs) → Told j s (fact j) (record { stop = stop; report = report })
+      unfolding Ran-ended
+      Told-ended report fact finishes tells =
+          record { run = Ran-ended report finishes; told = tells j (records_of j s so_far.got) whole.put (whole.keeps j [] [] at) }
 
       IsCutShort-ended : (halt : Halt) (put : List ℕ) → Appends behind s.taken_now put → Begun j halt (records_of j s so_far.got) (whole.put ++ put) → IsCutShort j s halt
       IsCutShort-ended halt put written begun = record {

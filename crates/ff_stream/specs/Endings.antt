@@ -56,6 +56,11 @@ pub record HasRun {N : Type 0} (j : Job N) (s : Streams) (ending : Ending) : Typ
   pub reports : IsReported j (records_of j s got) ending.report
   pub stops : Stopped ending.stop (limit_by j.version got) s.ended s.left_now
 
+-- the run that an answer tells of, and a fact that holds of the records that were read
+pub record Told {N : Type 0} (j : Job N) (s : Streams) (fact : List Rec → Type 0) (ending : Ending) : Type 0 where
+  pub run : HasRun j s ending
+  pub told : fact (records_of j s run.got)
+
 -- no more was to be read, and the count of the input's faults tells where a read failed
 pub record IsReadOut {N : Type 0} (j : Job N) (s : Streams) (got : List ℕ) : Type 0 where
   pub stop : Stop

@@ -1,7 +1,6 @@
 // What breaks a run off.
 use ff_io::Failed;
 use ff_rec::NoMemory;
-use std::alloc::AllocError;
 
 /// Why the work breaks off before its end.
 #[derive(Clone, Copy, Debug, PartialEq, Eq, Hash)]
@@ -75,17 +74,6 @@ impl From<NoMemory> for RunFault {
     ghost from_gives = { λ _ fault. fault ≡ NoMemory };
 
     fn from(_: NoMemory) -> RunFault {
-        RunFault::NoMemory
-    }
-}
-
-impl From<AllocError> for RunFault {
-    ghost use Rattle.std.specs.Prelude.{◌≡◌};
-    ghost use Rattle.ff_stream.specs.declared.fault.RunFault.TheVariants.{NoMemory};
-
-    ghost from_gives = { λ _ fault. fault ≡ NoMemory };
-
-    fn from(_: AllocError) -> RunFault {
         RunFault::NoMemory
     }
 }

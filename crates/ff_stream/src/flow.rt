@@ -20,12 +20,19 @@ pub(crate) struct Flow<M> {
 }
 
 impl<N: Node, M: Node> Work<N> for Flow<M> {
+    type Closer = ();
+
+    ghost use Rattle.std.specs.Prelude.{⊤};
     ghost use Rattle.ff_stream.specs.Flows.{Flows};
     ghost use Rattle.ff_stream.specs.Works.{IsOpen};
 
     ghost stands = { λ j w xs front. Flows M.does j w xs front };
 
     ghost halted = { λ j _ halt xs front. IsOpen j halt xs front };
+
+    ghost told = { λ _ _ _ _. ⊤ };
+
+    ghost closes = { λ _ _. ⊤ };
 
     fn take<O: Sink>(&mut self, r: Record, sink: &mut O) -> Result<(), Halt> {
         hand(self, r)?;
@@ -40,11 +47,16 @@ impl<N: Node, M: Node> Work<N> for Flow<M> {
         self.ended
     }
 
-    fn finish<O: Sink>(mut self, _alloc: Global, sink: &mut O) -> Result<Report, RunFault> {
+    fn finish<O: Sink>(
+        mut self,
+        _alloc: Global,
+        _by: &mut (),
+        sink: &mut O,
+    ) -> Result<Report, RunFault> {
         end(&mut self)?;
         self.text.write(sink)?;
         Ok(report_of(&mut self.sends))
     }
 
-    fn give_up(self) {}
+    fn give_up(self, _by: &mut ()) {}
 }

@@ -11,6 +11,9 @@ use std::alloc::Global;
 /// what is sent for them then or at the end. Whoever runs it ends it by `finish` or by `give_up`, so it may hold what
 /// can't be let go, as threads that have to be joined.
 pub trait Work<N: Node> {
+    /// What the work is ended with, as what joins its threads.
+    type Closer;
+
     ghost use Rattle.std.specs.Prelude.{ℕ, List, IsTrue, IfErr, OnOk, ◌≡◌, [], ◌∷◌};
     ghost use Rattle.ff_rec.specs.Lines.{Rec};
     ghost use Rattle.ff_stream.specs.Endings.{output_count};
@@ -24,6 +27,12 @@ pub trait Work<N: Node> {
 
     /// In this job it broke off at this halt, after it took these records, and these bytes were written.
     ghost halted: { Job N → Self → Halt → List Rec → List ℕ → Type 0 };
+
+    /// What its end made of the closer, where it answered behind these records in this job.
+    ghost told: { Job N → List Rec → Self.Closer → Self.Closer → Type 0 };
+
+    /// What its end makes of the closer, whatever happened.
+    ghost closes: { Self.Closer → Self.Closer → Type 0 };
 
     /// Takes a record. After a refusal the work is to be given up.
     fn take<O: Sink>(&mut self, r: Record, sink: &mut O) -> Result<(), Halt>
@@ -47,15 +56,24 @@ pub trait Work<N: Node> {
         ensures { IsTrue result → Drops stands self.now };
 
     /// Does what is left behind the last record, and writes the rest.
-    fn finish<O: Sink>(self, alloc: Global, sink: &mut O) -> Result<Report, RunFault>
+    fn finish<O: Sink>(
+        self,
+        alloc: Global,
+        by: &mut Self::Closer,
+        sink: &mut O,
+    ) -> Result<Report, RunFault>
         ensures ends { Finishes stands self (O.taken sink.old) (O.taken sink.new) result }
+        ensures told { OnOk result ((j : Job N) (xs : List Rec) (front : List ℕ)
+            → stands j self xs front → told j xs by.old by.new) }
+        ensures closes { closes by.old by.new }
         ensures counts { O.faults sink.new ≡ output_count (O.faults sink.old) result };
 
     /// Ends the run early: nothing more is written. What was written begins an answer whatever records follow, both
     /// where the work still stood and where it broke off.
-    fn give_up(self)
+    fn give_up(self, by: &mut Self::Closer)
         ensures stood { (j : Job N) (xs : List Rec) (front : List ℕ) → stands j self xs front
             → IsOpen j NoMemory xs front }
         ensures broke { (j : Job N) (halt : Halt) (xs : List Rec) (front : List ℕ)
-            → halted j self halt xs front → IsOpen j halt xs front };
+            → halted j self halt xs front → IsOpen j halt xs front }
+        ensures closes { closes by.old by.new };
 }

@@ -1,5 +1,5 @@
 use Rattle.std.proofs.Common.{◌≡◌, ◌<◌, ◌++◌, length}
-use Rattle.ff_single.specs.Pipelines.{all_nodes}
+use Rattle.ff_mean.specs.Pipelines.{all_nodes}
 use Rattle.ff_single.proofs.groups.group.Given as goal
 
 -- the nodes so far stand in the combs and in the next one

@@ -1,6 +1,6 @@
 -- The nodes of one comb more.
 
-use Rattle.ff_single.proofs.Pipelines.{all_nodes-push}
+use Rattle.ff_mean.proofs.Groups.{all_nodes-push}
 use Rattle.ff_single.proofs.groups.push_comb.Goals as goal
 
 pub returns : goal.returns

@@ -1,6 +1,6 @@
 -- Combs of these nodes stand for the network too.
 use Rattle.ff_net.specs.Tree.{tree_of}
-use Rattle.ff_single.proofs.Pipelines.{IfOk-groups}
+use Rattle.ff_mean.proofs.Groups.{IfOk-groups}
 use Rattle.ff_single.proofs.pipeline.grouped.Goals as goal
 
 pub returns : goal.returns

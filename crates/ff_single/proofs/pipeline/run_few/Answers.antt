@@ -1,8 +1,9 @@
 -- The only node, or the comb of all nodes, stands for the network.
 use Rattle.std.proofs.Common.{refl, sym, ◌∙◌}
 use Rattle.ff_net.specs.Tree.{tree_of}
+use Rattle.ff_mean.proofs.Groups.{only-last}
 use Rattle.ff_stream.specs.Jobs.{job}
-use Rattle.ff_single.proofs.Pipelines.{IsNodeOf-comb, IsNodeOf-one, only-last}
+use Rattle.ff_single.proofs.Pipelines.{IsNodeOf-comb, IsNodeOf-one}
 use Rattle.ff_single.proofs.pipeline.run_few.Goals as goal
 
 pub returns-in-Some-clause-run : goal.returns-in-Some-clause-run

@@ -1,6 +1,6 @@
 -- The nodes of the network stand for it.
 use Rattle.ff_net.specs.Tree.{tree_of}
-use Rattle.ff_single.proofs.Pipelines.{ArePipelineOf-opened}
+use Rattle.ff_mean.proofs.Groups.{ArePipelineOf-opened}
 use Rattle.ff_single.proofs.pipeline.run_pipeline.Goals as goal
 
 pub run_nodes-requires : goal.run_nodes-requires
