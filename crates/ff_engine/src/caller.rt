@@ -1,7 +1,8 @@
 // The calling thread's ends of a line of rings.
-ghost use Rattle.std.specs.Prelude.{◌≡◌, [], None};
+ghost use Rattle.std.specs.Prelude.{◌≡◌, [], None, Some};
+ghost use Rattle.ff_port.specs.declared.answers.End.TheVariants.{Eos};
 ghost use Rattle.ff_ring.specs.Ends.{put_of, got_of, read_ring, written_ring};
-ghost use Rattle.ff_engine.specs.Callers.{Receives};
+ghost use Rattle.ff_engine.specs.Callers.{EndsWithEos, Receives, caller_of};
 
 mod feeding;
 mod showing;
@@ -11,7 +12,6 @@ use ff_rec::{Msg, Record};
 use ff_ring::{Pause, RingIn, RingOut};
 use ff_stream::Text;
 use std::alloc::Global;
-use std::marker::Model;
 use std::sync::Wait;
 
 /// The ends that the calling thread has: it feeds the first ring, and writes the records that come over the last one.
@@ -24,26 +24,7 @@ pub(crate) struct Caller {
     text: Text,
     // How the stream ended, once its end came. Nothing is taken then.
     end: Option<End>,
-}
-
-impl Model for Caller {
-    ghost use Rattle.std.specs.Prelude.{◌≡◌, Some};
-    ghost use Rattle.ff_port.specs.declared.answers.End.TheVariants.{Eos};
-    ghost use Rattle.ff_ring.specs.Ends.{put_of, got_of, read_ring, written_ring};
-    ghost use Rattle.ff_engine.specs.Callers.{CallerState, EndsWithEos};
-
-    ghost Value = { CallerState };
-
-    ghost view = { λ c. record {
-      put = put_of c.first;
-      got = got_of c.last;
-      text = c.text;
-      end = c.end;
-      writes = written_ring c.first;
-      reads = read_ring c.last;
-    } };
-
-    ghost invariant = { λ c. c.end ≡ Some Eos → EndsWithEos (got_of c.last) };
+    ghost closes: { end ≡ Some Eos → EndsWithEos (got_of last) },
 }
 
 impl Caller {
@@ -54,7 +35,7 @@ impl Caller {
         last: RingIn<Record>,
         pause: Pause,
     ) -> Caller
-        ensures { result ≡ record {
+        ensures { caller_of result ≡ record {
           put = put_of first; got = got_of last; text = []; end = None;
           writes = written_ring first; reads = read_ring last;
         } }
@@ -70,7 +51,8 @@ impl Caller {
 
     /// How the stream ended, once its end came.
     pub(crate) fn end(&self) -> Option<End>
-        ensures { result ≡ self.now.end }
+        ensures end { result ≡ (caller_of self.now).end }
+        ensures eos { result ≡ Some Eos → EndsWithEos (caller_of self.now).got }
     {
         self.end
     }
@@ -82,10 +64,10 @@ impl Caller {
 
     /// The two ends.
     pub(crate) fn into_ends(self) -> (RingOut<Record>, RingIn<Record>)
-        ensures put { put_of result.0 ≡ self.put }
-        ensures got { got_of result.1 ≡ self.got }
-        ensures writes { written_ring result.0 ≡ self.writes }
-        ensures reads { read_ring result.1 ≡ self.reads }
+        ensures put { put_of result.0 ≡ (caller_of self).put }
+        ensures got { got_of result.1 ≡ (caller_of self).got }
+        ensures writes { written_ring result.0 ≡ (caller_of self).writes }
+        ensures reads { read_ring result.1 ≡ (caller_of self).reads }
     {
         let Caller { first, last, .. } = self;
         (first, last)
@@ -93,7 +75,7 @@ impl Caller {
 
     /// Takes a message. None comes behind the end.
     pub(crate) fn take(&mut self) -> Option<Msg<Record>>
-        ensures { Receives self.old result self.new }
+        ensures { Receives (caller_of self.old) result (caller_of self.new) }
     {
         if self.end.is_some() {
             return None;
@@ -109,7 +91,7 @@ impl Caller {
 
     /// A pause. Before it parks, it hands over what waits.
     pub(crate) fn rest<R: Wait>(&mut self, rt: &R)
-        ensures { self.new ≡ self.old }
+        ensures { caller_of self.new ≡ caller_of self.old }
     {
         if !self.pause.spin() {
             self.first.flush();

@@ -14,14 +14,14 @@ use std::marker::Model;
 use std::sync::Wait;
 
 /// Jobs that run, one behind the other. Contracts see them as they were when they were started. `join` alone spends it.
-pub(crate) struct Crew<U: Unit, R: Wait> {
+pub(crate) struct Crew<U: Unit, R: Wait + Drop> {
     running: RunningJobs<NetJob<U, R>>,
     // Room for the jobs, once they have ended, and for their units.
     jobs: Vec<NetJob<U, R>>,
     units: Vec<U>,
 }
 
-impl<U: Unit, R: Wait> Model for Crew<U, R> {
+impl<U: Unit, R: Wait + Drop> Model for Crew<U, R> {
     ghost use Rattle.std.specs.Prelude.{List, [], ◌≤◌, ◌≡◌, length, vec_capacity};
     ghost use Rattle.ff_engine.specs.Jobs.{JobState};
 

@@ -3,7 +3,7 @@ ghost use Rattle.std.specs.Prelude.{◌≡◌, ◌≢◌, ◌++◌, ◌∷◌, [
 ghost use Rattle.ff_rec.specs.Streams.{IsOpen};
 ghost use Rattle.ff_rec.specs.declared.msg.Msg.TheVariants.{Eos};
 ghost use Rattle.ff_stream.specs.Works.{halt_count};
-ghost use Rattle.ff_engine.specs.Callers.{Moves, Breaks, SameRings, EndsOnce};
+ghost use Rattle.ff_engine.specs.Callers.{Moves, Breaks, SameRings, EndsOnce, caller_of};
 ghost use Rattle.ff_engine.specs.Lines.{Linked};
 
 use crate::caller::Caller;
@@ -23,13 +23,13 @@ use std::sync::Wait;
 
 /// The units of a network in threads of their own, between the two ends of the calling thread, which feeds them as it
 /// reads and writes what comes.
-pub(crate) struct Line<N: Node, R: Wait, S> {
+pub(crate) struct Line<N: Node, R: Wait + Drop, S> {
     pub(crate) caller: Caller,
     pub(crate) crew: Crew<Stage<Comb<N>>, R>,
     pub(crate) rt: R,
     pub(crate) joined_by: PhantomData<S>,
-    ghost open: { IsOpen caller.put },
-    ghost linked: { Linked caller.writes crew caller.reads },
+    ghost open: { IsOpen (caller_of caller).put },
+    ghost linked: { Linked (caller_of caller).writes crew (caller_of caller).reads },
 }
 
 impl<
@@ -37,13 +37,14 @@ impl<
     R: Wait + Drop + Send + 'static,
     S: Spawner<NetJob<Stage<Comb<N>>, R>>,
 > Work<N> for Line<N, R, S> {
+    ghost use Rattle.ff_engine.specs.Callers.{caller_of};
     ghost use Rattle.ff_engine.specs.Networks.{HasFed, HasStopped, WorkedThrough, JoinsOnly};
 
     type Closer = S;
 
-    ghost stands = { λ j l xs front. HasFed N.does j l.caller l.crew xs front };
+    ghost stands = { λ j l xs front. HasFed N.does j (caller_of l.caller) l.crew xs front };
 
-    ghost halted = { λ j l _ xs front. HasStopped N.does j l.caller l.crew xs front };
+    ghost halted = { λ j l _ xs front. HasStopped N.does j (caller_of l.caller) l.crew xs front };
 
     ghost told = { λ j xs by by'. WorkedThrough j xs (S.worked by) (S.worked by') };
 
@@ -103,14 +104,14 @@ impl<
 
 // Tells the units that no more records come, and shows all that they send. The stream has come to its end then.
 fn close<R: Wait, O: Sink>(caller: &mut Caller, rt: &R, sink: &mut O) -> Result<(), Halt>
-    requires { IsOpen caller.old.put }
-    ensures put { OnOk result (caller.new.put ≡ caller.old.put ++ Eos ∷ []) }
-    ensures moves { OnOk result (Moves caller.old caller.new (O.taken sink.old) (O.taken sink.new)) }
-    ensures written { OnOk result (caller.new.text ≡ []) }
-    ensures end { OnOk result (caller.new.end ≢ None) }
-    ensures ends { OnErr result (EndsOnce caller.old.put caller.new.put) }
-    ensures breaks { OnErr result (Breaks caller.old caller.new (O.taken sink.old) (O.taken sink.new)) }
-    ensures rings { SameRings caller.old caller.new }
+    requires { IsOpen (caller_of caller.old).put }
+    ensures put { OnOk result ((caller_of caller.new).put ≡ (caller_of caller.old).put ++ Eos ∷ []) }
+    ensures moves { OnOk result (Moves (caller_of caller.old) (caller_of caller.new) (O.taken sink.old) (O.taken sink.new)) }
+    ensures written { OnOk result ((caller_of caller.new).text ≡ []) }
+    ensures end { OnOk result ((caller_of caller.new).end ≢ None) }
+    ensures ends { OnErr result (EndsOnce (caller_of caller.old).put (caller_of caller.new).put) }
+    ensures breaks { OnErr result (Breaks (caller_of caller.old) (caller_of caller.new) (O.taken sink.old) (O.taken sink.new)) }
+    ensures rings { SameRings (caller_of caller.old) (caller_of caller.new) }
     ensures counts { O.faults sink.new ≡ halt_count (O.faults sink.old) result }
 {
     if let Err(halt) = caller.feed(rt, Msg::Eos, sink) {

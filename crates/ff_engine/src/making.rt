@@ -53,8 +53,13 @@ fn bell_of(
     if last {
         Ok(Arc::try_clone(own)?)
     } else {
-        Ok(Arc::new(alloc, Parker::new())?)
+        new_bell(alloc)
     }
+}
+
+/// The parker of a thread.
+pub(crate) fn new_bell(alloc: Global) -> Result<Arc<Parker, Global>, NoMemory> {
+    Ok(Arc::new(alloc, Parker::new())?)
 }
 
 // A job that reads this ring, and the reading end of the ring that it writes. `bell` is the parker of its thread, and

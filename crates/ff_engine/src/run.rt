@@ -14,7 +14,7 @@ ghost use Rattle.ff_engine.specs.Runs.{NetRan, CountsNetInput, refused_count, ne
 use crate::caller::Caller;
 use crate::crew::Crew;
 use crate::line::Line;
-use crate::making::make_line;
+use crate::making::{make_line, new_bell};
 use crate::{NetFault, NetJob};
 use ff_io::{Sink, Source};
 use ff_net::Checked;
@@ -26,8 +26,7 @@ use ff_stream::{Ending, run_work};
 use ff_unit::{Stage, Unit};
 use std::alloc::Global;
 use std::marker::PhantomData;
-use std::sync::{Arc, Wait};
-use std::thread::Parker;
+use std::sync::Wait;
 
 /// Whether a network can be run by threads: it is a leaf, a comb or a pipe of such.
 pub fn runs<N: Node>(checked: &Checked<N>) -> bool
@@ -72,11 +71,11 @@ pub fn run_net<
 {
     let units = make_units(alloc, checked, keep)?;
     let room = Vec::with_capacity(alloc, units.len())?;
-    let mut running = RunningJobs::with_capacity(alloc, units.len())?;
-    let own = Arc::new(alloc, Parker::new())?;
+    let own = new_bell(alloc)?;
     let (first, mut jobs, last) = make_line(alloc, units, cap as usize, rt, &own)?;
     let waits = rt.clone()?;
     let mut caller = Caller::new(alloc, first, last, Pause::new(own));
+    let mut running = RunningJobs::with_capacity(alloc, jobs.len())?;
     if let Err(denial) = running.start_all(alloc, spawner, &mut jobs) {
         break_up(&mut caller, rt, running, jobs, spawner);
         return Err(denial.into());

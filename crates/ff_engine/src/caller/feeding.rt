@@ -3,7 +3,7 @@ ghost use Rattle.std.specs.Prelude.{◌≡◌, ◌++◌, ◌∷◌, [], OnOk, On
 ghost use Rattle.ff_rec.specs.Streams.{IsOpen};
 ghost use Rattle.ff_rec.specs.declared.msg.Msg.TheVariants.{Abort};
 ghost use Rattle.ff_stream.specs.Works.{halt_count};
-ghost use Rattle.ff_engine.specs.Callers.{Moves, Breaks, SameRings, TakesMore};
+ghost use Rattle.ff_engine.specs.Callers.{Moves, Breaks, SameRings, TakesMore, caller_of};
 
 use crate::caller::Caller;
 use ff_io::Sink;
@@ -20,12 +20,12 @@ impl Caller {
         m: Msg<Record>,
         sink: &mut O,
     ) -> Result<(), Halt>
-        requires { IsOpen self.old.put }
-        ensures put { OnOk result (self.new.put ≡ self.old.put ++ m ∷ []) }
-        ensures moves { OnOk result (Moves self.old self.new (O.taken sink.old) (O.taken sink.new)) }
-        ensures stays { OnErr result (self.new.put ≡ self.old.put) }
-        ensures breaks { OnErr result (Breaks self.old self.new (O.taken sink.old) (O.taken sink.new)) }
-        ensures rings { SameRings self.old self.new }
+        requires { IsOpen (caller_of self.old).put }
+        ensures put { OnOk result ((caller_of self.new).put ≡ (caller_of self.old).put ++ m ∷ []) }
+        ensures moves { OnOk result (Moves (caller_of self.old) (caller_of self.new) (O.taken sink.old) (O.taken sink.new)) }
+        ensures stays { OnErr result ((caller_of self.new).put ≡ (caller_of self.old).put) }
+        ensures breaks { OnErr result (Breaks (caller_of self.old) (caller_of self.new) (O.taken sink.old) (O.taken sink.new)) }
+        ensures rings { SameRings (caller_of self.old) (caller_of self.new) }
         ensures counts { O.faults sink.new ≡ halt_count (O.faults sink.old) result }
     {
         match self.first.try_put(m) {
@@ -42,12 +42,12 @@ impl Caller {
         m: Msg<Record>,
         sink: &mut O,
     ) -> Result<(), Halt>
-        requires { IsOpen self.old.put }
-        ensures put { OnOk result (self.new.put ≡ self.old.put ++ m ∷ []) }
-        ensures moves { OnOk result (Moves self.old self.new (O.taken sink.old) (O.taken sink.new)) }
-        ensures stays { OnErr result (self.new.put ≡ self.old.put) }
-        ensures breaks { OnErr result (Breaks self.old self.new (O.taken sink.old) (O.taken sink.new)) }
-        ensures rings { SameRings self.old self.new }
+        requires { IsOpen (caller_of self.old).put }
+        ensures put { OnOk result ((caller_of self.new).put ≡ (caller_of self.old).put ++ m ∷ []) }
+        ensures moves { OnOk result (Moves (caller_of self.old) (caller_of self.new) (O.taken sink.old) (O.taken sink.new)) }
+        ensures stays { OnErr result ((caller_of self.new).put ≡ (caller_of self.old).put) }
+        ensures breaks { OnErr result (Breaks (caller_of self.old) (caller_of self.new) (O.taken sink.old) (O.taken sink.new)) }
+        ensures rings { SameRings (caller_of self.old) (caller_of self.new) }
         ensures counts { O.faults sink.new ≡ halt_count (O.faults sink.old) result }
     {
         let mut m = m;
@@ -63,10 +63,10 @@ impl Caller {
 
     /// Puts Abort on the first ring, and takes what comes up to the end. Nothing of it is shown.
     pub(crate) fn stop<R: Wait>(&mut self, rt: &R)
-        requires { IsOpen self.old.put }
-        ensures put { self.new.put ≡ self.old.put ++ Abort ∷ [] }
-        ensures more { TakesMore self.old self.new }
-        ensures rings { SameRings self.old self.new }
+        requires { IsOpen (caller_of self.old).put }
+        ensures put { (caller_of self.new).put ≡ (caller_of self.old).put ++ Abort ∷ [] }
+        ensures more { TakesMore (caller_of self.old) (caller_of self.new) }
+        ensures rings { SameRings (caller_of self.old) (caller_of self.new) }
     {
         let mut m = Msg::Abort;
         for _ in rt.forever() {

@@ -1,7 +1,7 @@
 // What comes over the last ring.
 ghost use Rattle.std.specs.Prelude.{◌≡◌, ◌≢◌, [], None, OnOk, OnErr};
 ghost use Rattle.ff_stream.specs.Works.{halt_count};
-ghost use Rattle.ff_engine.specs.Callers.{Moves, Breaks, SameRings, TakesMore};
+ghost use Rattle.ff_engine.specs.Callers.{Moves, Breaks, SameRings, TakesMore, caller_of};
 
 use crate::caller::Caller;
 use ff_io::Sink;
@@ -19,12 +19,12 @@ const QUIET_PARKS: u32 = 2;
 impl Caller {
     /// Shows all that comes up to the end, and writes the rest of the text.
     pub(crate) fn drain<R: Wait, O: Sink>(&mut self, rt: &R, sink: &mut O) -> Result<(), Halt>
-        ensures put { self.new.put ≡ self.old.put }
-        ensures moves { OnOk result (Moves self.old self.new (O.taken sink.old) (O.taken sink.new)) }
-        ensures written { OnOk result (self.new.text ≡ []) }
-        ensures end { OnOk result (self.new.end ≢ None) }
-        ensures breaks { OnErr result (Breaks self.old self.new (O.taken sink.old) (O.taken sink.new)) }
-        ensures rings { SameRings self.old self.new }
+        ensures put { (caller_of self.new).put ≡ (caller_of self.old).put }
+        ensures moves { OnOk result (Moves (caller_of self.old) (caller_of self.new) (O.taken sink.old) (O.taken sink.new)) }
+        ensures written { OnOk result ((caller_of self.new).text ≡ []) }
+        ensures end { OnOk result ((caller_of self.new).end ≢ None) }
+        ensures breaks { OnErr result (Breaks (caller_of self.old) (caller_of self.new) (O.taken sink.old) (O.taken sink.new)) }
+        ensures rings { SameRings (caller_of self.old) (caller_of self.new) }
         ensures counts { O.faults sink.new ≡ halt_count (O.faults sink.old) result }
     {
         for _ in rt.forever() {
@@ -38,10 +38,10 @@ impl Caller {
 
     /// Hands over what waits, and shows what comes until nothing has come for some milliseconds.
     pub(crate) fn show<R: Wait, O: Sink>(&mut self, rt: &R, sink: &mut O) -> Result<(), Halt>
-        ensures put { self.new.put ≡ self.old.put }
-        ensures moves { OnOk result (Moves self.old self.new (O.taken sink.old) (O.taken sink.new)) }
-        ensures breaks { OnErr result (Breaks self.old self.new (O.taken sink.old) (O.taken sink.new)) }
-        ensures rings { SameRings self.old self.new }
+        ensures put { (caller_of self.new).put ≡ (caller_of self.old).put }
+        ensures moves { OnOk result (Moves (caller_of self.old) (caller_of self.new) (O.taken sink.old) (O.taken sink.new)) }
+        ensures breaks { OnErr result (Breaks (caller_of self.old) (caller_of self.new) (O.taken sink.old) (O.taken sink.new)) }
+        ensures rings { SameRings (caller_of self.old) (caller_of self.new) }
         ensures counts { O.faults sink.new ≡ halt_count (O.faults sink.old) result }
     {
         self.first.flush();
@@ -64,10 +64,10 @@ impl Caller {
 
     /// Shows what has come. Where nothing has, it pauses.
     pub(crate) fn turn<R: Wait, O: Sink>(&mut self, rt: &R, sink: &mut O) -> Result<(), Halt>
-        ensures put { self.new.put ≡ self.old.put }
-        ensures moves { OnOk result (Moves self.old self.new (O.taken sink.old) (O.taken sink.new)) }
-        ensures breaks { OnErr result (Breaks self.old self.new (O.taken sink.old) (O.taken sink.new)) }
-        ensures rings { SameRings self.old self.new }
+        ensures put { (caller_of self.new).put ≡ (caller_of self.old).put }
+        ensures moves { OnOk result (Moves (caller_of self.old) (caller_of self.new) (O.taken sink.old) (O.taken sink.new)) }
+        ensures breaks { OnErr result (Breaks (caller_of self.old) (caller_of self.new) (O.taken sink.old) (O.taken sink.new)) }
+        ensures rings { SameRings (caller_of self.old) (caller_of self.new) }
         ensures counts { O.faults sink.new ≡ halt_count (O.faults sink.old) result }
     {
         if self.take_ready(sink)? {
@@ -80,10 +80,10 @@ impl Caller {
 
     // Takes what has come and prints it. It answers whether something came.
     fn take_ready<O: Sink>(&mut self, sink: &mut O) -> Result<bool, Halt>
-        ensures put { self.new.put ≡ self.old.put }
-        ensures moves { OnOk result (Moves self.old self.new (O.taken sink.old) (O.taken sink.new)) }
-        ensures breaks { OnErr result (Breaks self.old self.new (O.taken sink.old) (O.taken sink.new)) }
-        ensures rings { SameRings self.old self.new }
+        ensures put { (caller_of self.new).put ≡ (caller_of self.old).put }
+        ensures moves { OnOk result (Moves (caller_of self.old) (caller_of self.new) (O.taken sink.old) (O.taken sink.new)) }
+        ensures breaks { OnErr result (Breaks (caller_of self.old) (caller_of self.new) (O.taken sink.old) (O.taken sink.new)) }
+        ensures rings { SameRings (caller_of self.old) (caller_of self.new) }
         ensures counts { O.faults sink.new ≡ halt_count (O.faults sink.old) result }
     {
         for taken in 0..MOST_AT_ONCE {
@@ -96,10 +96,10 @@ impl Caller {
 
     // Takes a message and prints what it carries. It answers whether one came.
     fn receive<O: Sink>(&mut self, sink: &mut O) -> Result<bool, Halt>
-        ensures put { self.new.put ≡ self.old.put }
-        ensures moves { OnOk result (Moves self.old self.new (O.taken sink.old) (O.taken sink.new)) }
-        ensures breaks { OnErr result (Breaks self.old self.new (O.taken sink.old) (O.taken sink.new)) }
-        ensures rings { SameRings self.old self.new }
+        ensures put { (caller_of self.new).put ≡ (caller_of self.old).put }
+        ensures moves { OnOk result (Moves (caller_of self.old) (caller_of self.new) (O.taken sink.old) (O.taken sink.new)) }
+        ensures breaks { OnErr result (Breaks (caller_of self.old) (caller_of self.new) (O.taken sink.old) (O.taken sink.new)) }
+        ensures rings { SameRings (caller_of self.old) (caller_of self.new) }
         ensures counts { O.faults sink.new ≡ halt_count (O.faults sink.old) result }
     {
         let Some(m) = self.take() else {
@@ -114,9 +114,9 @@ impl Caller {
 
     /// Takes what comes up to the end. Nothing of it is shown.
     pub(crate) fn drop_rest<R: Wait>(&mut self, rt: &R)
-        ensures put { self.new.put ≡ self.old.put }
-        ensures more { TakesMore self.old self.new }
-        ensures rings { SameRings self.old self.new }
+        ensures put { (caller_of self.new).put ≡ (caller_of self.old).put }
+        ensures more { TakesMore (caller_of self.old) (caller_of self.new) }
+        ensures rings { SameRings (caller_of self.old) (caller_of self.new) }
     {
         for _ in rt.forever() {
             if self.end.is_some() {

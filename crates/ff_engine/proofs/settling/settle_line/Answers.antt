@@ -2,9 +2,8 @@ use Rattle.std.proofs.Common.{◌≡◌, ◌∷◌, [], ◌++◌, map, refl, ap,
 use Rattle.std.proofs.lemmas.List.{map-append}
 use Rattle.std.specs.Vec.Iter.{into_iter_items}
 use Rattle.ff_ring.specs.Ends.{put_of, got_of, there_of, held_of, read_ring, written_ring}
-use Rattle.ff_steps.specs.Chains.{Chained}
 use Rattle.ff_engine.specs.Lines.{Linked}
-use Rattle.ff_engine.proofs.Passing.{Chained-push, IsSettled-last}
+use Rattle.ff_engine.proofs.Passing.{JobsChained-push, IsSettled-last}
 use Rattle.ff_engine.proofs.settling.settle_line.Goals as goal
 
 pub loop-job-preserved : goal.loop-job-preserved
@@ -20,13 +19,12 @@ loop-job-preserved g c =
     c.push_reserved.ensures.items ∙ ap (λ u. c.loop-job.units.items ++ u ∷ []) c.settle-unit.ensures.unit in record {
       linked = subst (λ o. Linked o rest (read_ring c.args.last.now)) out linked.1.2;
       units = pushed ∙ ap (λ us. us ++ job.unit ∷ []) before.units ∙ sym (map-append (λ j. j.unit) c.loop-job.yielded (job ∷ []));
-      chained = subst (λ us. Chained g.U.Unit.does (put_of c.args.first) us (put_of behind)) (sym pushed)
-          (Chained-push g.U.Unit.does (put_of c.args.first) c.loop-job.units.items (put_of c.loop-job.before) job.unit (put_of behind) before.chained c.settle-unit.ensures.passes);
+      chained = JobsChained-push (put_of c.args.first) c.loop-job.yielded (put_of c.loop-job.before) job (put_of behind) before.chained c.settle-unit.ensures.passes;
       room = omega (arith, next.1);
     }
 
 pub returns-clause-settled : goal.returns-clause-settled
 returns-clause-settled g c =
     let law = c.settle.ensures.law ∙ c.settle.ensures.put in
-    IsSettled-last g.U.Unit.does (put_of c.args.first) c.loop-job.units.items (put_of c.loop-job.before) (got_of c.settle.new.inn) (there_of c.settle.new.inn) (held_of c.settle.new.out) (got_of c.settle.new.inn)
+    IsSettled-last (put_of c.args.first) c.loop-job.yielded (put_of c.loop-job.before) (got_of c.settle.new.inn) (there_of c.settle.new.inn) (held_of c.settle.new.out) (got_of c.settle.new.inn)
     c.loop-job.invariant.chained law refl

@@ -1,0 +1,129 @@
+-- How the calling thread goes on: one stretch behind another.
+use Rattle.std.proofs.Common.{◌≡◌, ℕ, List, [], ◌∷◌, ◌++◌, refl, sym, ap, ◌∙◌, append_assoc, append-nil}
+use Rattle.std.specs.Prelude.{Option, Some}
+use Rattle.std.proofs.KnownBytes.{Appends-nil, Appends-trans}
+use Rattle.std.proofs.lemmas.Grind.{flat_map-append}
+use Rattle.ff_rec.specs.Lines.{Rec, line_of, text}
+use Rattle.ff_rec.specs.Streams.{items}
+use Rattle.ff_rec.specs.declared.msg.Msg.TheVariants.{Item, Mark, Pick, Eos, Abort}
+use Rattle.ff_node.specs.Runs.{Message}
+use Rattle.ff_stream.specs.Texts.{Writes, WritesSome}
+use Rattle.ff_unit.specs.MessageLaws.{items-append}
+use Rattle.ff_engine.specs.Callers.{CallerState, Moves, Breaks, SameRings, TakesMore, Receives}
+
+-- the rings stay over two stretches
+pub SameRings-refl : (c : CallerState) → SameRings c c
+SameRings-refl c = record { writes = refl; reads = refl }
+
+pub SameRings-trans : (c d e : CallerState) → SameRings c d → SameRings d e → SameRings c e
+SameRings-trans c d e first second = record { writes = second.writes ∙ first.writes; reads = second.reads ∙ first.reads }
+
+-- more was taken over two stretches
+pub TakesMore-refl : (c : CallerState) → TakesMore c c
+TakesMore-refl c = record { more = []; is = sym (append-nil c.got) }
+
+pub TakesMore-trans : (c d e : CallerState) → TakesMore c d → TakesMore d e → TakesMore c e
+TakesMore-trans c d e first second = record {
+  more = first.more ++ second.more;
+  is = second.is ∙ ap (λ ms. ms ++ second.more) first.is ∙ append_assoc c.got first.more second.more;
+}
+
+-- nothing happened
+pub Moves-refl : (c : CallerState) (t : Option (List ℕ)) → Moves c c t t
+Moves-refl c t = record {
+  written = [];
+  taken = Appends-nil t;
+  shows = λ front at. at ∙ ap (λ l. l ++ c.text) (sym (append-nil front));
+}
+
+-- one stretch behind another
+pub Moves-trans : (c d e : CallerState) (t t' t'' : Option (List ℕ)) → Moves c d t t' → Moves d e t' t'' → Moves c e t t''
+Moves-trans c d e t t' t'' first second = record {
+  written = first.written ++ second.written;
+  taken = Appends-trans t t' t'' first.written second.written first.taken second.taken;
+  shows = λ front at. second.shows (front ++ first.written) (first.shows front at) ∙ ap (λ l. l ++ e.text) (append_assoc front first.written second.written);
+}
+
+-- a stretch behind which writing broke off
+pub Breaks-behind : (c d e : CallerState) (t t' t'' : Option (List ℕ)) → Moves c d t t' → Breaks d e t' t'' → Breaks c e t t''
+Breaks-behind c d e t t' t'' first second = record {
+  written = first.written ++ second.written;
+  taken = Appends-trans t t' t'' first.written second.written first.taken second.taken;
+  shows = λ front at.
+      let rest = second.shows (front ++ first.written) (first.shows front at) in
+      (rest.0, rest.1 ∙ ap (λ l. l ++ rest.0) (append_assoc front first.written second.written));
+}
+
+-- more that was taken and isn't shown
+pub Breaks-more : (c d e : CallerState) (t t' : Option (List ℕ)) → Breaks c d t t' → TakesMore d e → Breaks c e t t'
+Breaks-more c d e t t' broke more = record {
+  written = broke.written;
+  taken = broke.taken;
+  shows = λ front at.
+      let rest = broke.shows front at in
+      (rest.0 ++ text (items more.more),
+      ap (λ ms. text (items ms)) more.is ∙ ap text (items-append d.got more.more) ∙ flat_map-append line_of (items d.got) (items more.more)
+      ∙ ap (λ l. l ++ text (items more.more)) rest.1 ∙ append_assoc (front ++ broke.written) rest.0 (text (items more.more)));
+}
+
+-- the text of one message more
+text-more : (ms : List Message) (m : Message) → text (items (ms ++ m ∷ [])) ≡ text (items ms) ++ text (items (m ∷ []))
+text-more ms m = ap text (items-append ms (m ∷ [])) ∙ flat_map-append line_of (items ms) (items (m ∷ []))
+
+-- a record came, its line is held, and some of what is held was written
+pub Moves-record : (c d e : CallerState) (r : Rec) (held : List ℕ) (t t' : Option (List ℕ)) → d.got ≡ c.got ++ Item r ∷ [] → held ≡ c.text ++ line_of r → e.got ≡ d.got
+    → Writes held e.text t t' → Moves c e t t'
+Moves-record c d e r held t t' took printed kept writes = record {
+  written = writes.put;
+  taken = writes.taken;
+  shows = λ front at.
+      ap (λ ms. text (items ms)) (kept ∙ took) ∙ text-more c.got (Item r) ∙ ap (λ l. l ++ text (r ∷ [])) at
+      ∙ append_assoc front c.text (text (r ∷ [])) ∙ ap (λ l. front ++ (c.text ++ l)) (append-nil (line_of r))
+      ∙ ap (λ l. front ++ l) (sym printed ∙ writes.splits) ∙ sym (append_assoc front writes.put e.text);
+}
+
+pub Breaks-record : (c d e : CallerState) (r : Rec) (held : List ℕ) (t t' : Option (List ℕ)) → d.got ≡ c.got ++ Item r ∷ [] → held ≡ c.text ++ line_of r → e.got ≡ d.got
+    → WritesSome held t t' → Breaks c e t t'
+Breaks-record c d e r held t t' took printed kept writes = record {
+  written = writes.put;
+  taken = writes.taken;
+  shows = λ front at. (writes.back,
+      ap (λ ms. text (items ms)) (kept ∙ took) ∙ text-more c.got (Item r) ∙ ap (λ l. l ++ text (r ∷ [])) at
+      ∙ append_assoc front c.text (text (r ∷ [])) ∙ ap (λ l. front ++ (c.text ++ l)) (append-nil (line_of r))
+      ∙ ap (λ l. front ++ l) (sym printed ∙ writes.splits) ∙ sym (append_assoc front writes.put writes.back));
+}
+
+-- a record came that can't be held
+pub Breaks-starved : (c e : CallerState) (r : Rec) (t : Option (List ℕ)) → e.got ≡ c.got ++ Item r ∷ [] → Breaks c e t t
+Breaks-starved c e r t took = record {
+  written = [];
+  taken = Appends-nil t;
+  shows = λ front at. (c.text ++ text (r ∷ []),
+      ap (λ ms. text (items ms)) took ∙ text-more c.got (Item r) ∙ ap (λ l. l ++ text (r ∷ [])) at
+      ∙ append_assoc front c.text (text (r ∷ [])) ∙ ap (λ l. l ++ (c.text ++ text (r ∷ []))) (sym (append-nil front)));
+}
+
+-- a message came that carries nothing
+pub Moves-empty : (c e : CallerState) (m : Message) (t : Option (List ℕ)) → items (m ∷ []) ≡ [] → e.got ≡ c.got ++ m ∷ [] → e.text ≡ c.text → Moves c e t t
+Moves-empty c e m t none took same = record {
+  written = [];
+  taken = Appends-nil t;
+  shows = λ front at.
+      ap (λ ms. text (items ms)) took ∙ text-more c.got m ∙ ap (λ xs. text (items c.got) ++ text xs) none ∙ append-nil (text (items c.got)) ∙ at
+      ∙ ap (λ l. front ++ l) (sym same) ∙ ap (λ l. l ++ e.text) (sym (append-nil front));
+}
+
+-- what is held was written, all or a part of it
+pub Moves-written : (c e : CallerState) (t t' : Option (List ℕ)) → e.got ≡ c.got → Writes c.text e.text t t' → Moves c e t t'
+Moves-written c e t t' same writes = record {
+  written = writes.put;
+  taken = writes.taken;
+  shows = λ front at. ap (λ ms. text (items ms)) same ∙ at ∙ ap (λ l. front ++ l) writes.splits ∙ sym (append_assoc front writes.put e.text);
+}
+
+pub Breaks-written : (c e : CallerState) (t t' : Option (List ℕ)) → e.got ≡ c.got → WritesSome c.text t t' → Breaks c e t t'
+Breaks-written c e t t' same writes = record {
+  written = writes.put;
+  taken = writes.taken;
+  shows = λ front at. (writes.back, ap (λ ms. text (items ms)) same ∙ at ∙ ap (λ l. front ++ l) writes.splits ∙ sym (append_assoc front writes.put writes.back));
+}
