@@ -38,4 +38,7 @@ module _ {U : Type 0} (d : Doing U) where
       let rest : List (List Message) = gots_along d c.0 (map (λ k. k.unit) jobs) behind (Chained-jobs c.0 started jobs behind all.1 c.2) in
       let here : sum_by (λ (ms : List Message). length ms) job.gots ≡ length c.1.got + 0 =
       ap (λ (mss : List (List Message)). sum_by (λ ms. length ms) mss) c.1.gots ∙ sum_by-cons (λ ms. length ms) c.1.got [] in
-      omega (arith, here, sum_by-cons (λ (ms : List Message). length ms) c.1.got rest, sum_by-cons handled job jobs, handled-jobs c.0 started jobs behind all.1 c.2)
+      let whole : sum_by (λ (ms : List Message). length ms)
+      (gots_along d before (map (λ k. k.unit) (job ∷ jobs)) behind (Chained-jobs before (was ∷ started) (job ∷ jobs) behind all c))
+      ≡ length c.1.got + sum_by (λ (ms : List Message). length ms) rest = sum_by-cons (λ ms. length ms) c.1.got rest in
+      omega (arith, here, whole, sum_by-cons handled job jobs, handled-jobs c.0 started jobs behind all.1 c.2)

@@ -6,9 +6,7 @@ use Rattle.ff_rec.specs.Streams.{items, closed}
 use Rattle.ff_rec.specs.declared.msg.Msg.TheVariants.{Eos, Abort}
 use Rattle.ff_node.specs.Runs.{Message}
 use Rattle.ff_port.specs.declared.answers.End.{End}
-use Rattle.ff_ring.specs.Ends.{put_of, got_of, read_ring, written_ring}
 use Rattle.ff_ring.specs.Names.{RingName}
-use Rattle.ff_engine.specs.declared.caller.Caller.{Caller}
 
 pub record CallerState : Type 0 where
   -- what it put on the first ring, and what it took from the last one
@@ -21,17 +19,6 @@ pub record CallerState : Type 0 where
   -- the ring that it writes, and the one that it reads
   pub writes : RingName
   pub reads : RingName
-
--- a caller as the definitions see it
-abbrev pub caller_of : Caller → CallerState
-caller_of c = record {
-  put = put_of c.first;
-  got = got_of c.last;
-  text = c.text;
-  end = c.end;
-  writes = written_ring c.first;
-  reads = read_ring c.last;
-}
 
 -- these messages end with Eos
 pub record EndsWithEos (ms : List Message) : Type 0 where

@@ -3,6 +3,7 @@ pub mod Jobs
 pub mod Lines
 pub mod Crews
 pub mod Callers
+pub mod Seen
 pub mod Networks
 pub mod Faults
 pub mod Runs

@@ -36,4 +36,4 @@ CountsNetInput before now (Err (Run fault)) = CountsInput before now (Err fault)
 abbrev pub net_output_count : {A : Type 0} → ℕ → Result A NetFault → ℕ
 net_output_count n (Ok a) = n
 net_output_count n (Err Refused) = n
-net_output_count {A} n (Err (Run fault)) = output_count {A} n (Err fault)
+net_output_count {A} n (Err (Run fault)) = output_count {A = A} n (Err fault)

@@ -2,7 +2,8 @@
 ghost use Rattle.std.specs.Prelude.{◌≡◌, [], None, Some};
 ghost use Rattle.ff_port.specs.declared.answers.End.TheVariants.{Eos};
 ghost use Rattle.ff_ring.specs.Ends.{put_of, got_of, read_ring, written_ring};
-ghost use Rattle.ff_engine.specs.Callers.{EndsWithEos, Receives, caller_of};
+ghost use Rattle.ff_engine.specs.Callers.{EndsWithEos, Receives};
+ghost use Rattle.ff_engine.specs.Seen.{caller_of};
 
 mod feeding;
 mod showing;

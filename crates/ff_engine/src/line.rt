@@ -3,7 +3,8 @@ ghost use Rattle.std.specs.Prelude.{◌≡◌, ◌≢◌, ◌++◌, ◌∷◌, [
 ghost use Rattle.ff_rec.specs.Streams.{IsOpen};
 ghost use Rattle.ff_rec.specs.declared.msg.Msg.TheVariants.{Eos};
 ghost use Rattle.ff_stream.specs.Works.{halt_count};
-ghost use Rattle.ff_engine.specs.Callers.{Moves, Breaks, SameRings, EndsOnce, caller_of};
+ghost use Rattle.ff_engine.specs.Callers.{Moves, Breaks, SameRings, EndsOnce};
+ghost use Rattle.ff_engine.specs.Seen.{caller_of};
 ghost use Rattle.ff_engine.specs.Lines.{Linked};
 
 use crate::caller::Caller;
@@ -37,7 +38,7 @@ impl<
     R: Wait + Drop + Send + 'static,
     S: Spawner<NetJob<Stage<Comb<N>>, R>>,
 > Work<N> for Line<N, R, S> {
-    ghost use Rattle.ff_engine.specs.Callers.{caller_of};
+    ghost use Rattle.ff_engine.specs.Seen.{caller_of};
     ghost use Rattle.ff_engine.specs.Networks.{HasFed, HasStopped, WorkedThrough, JoinsOnly};
 
     type Closer = S;

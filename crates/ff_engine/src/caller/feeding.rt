@@ -3,7 +3,8 @@ ghost use Rattle.std.specs.Prelude.{◌≡◌, ◌++◌, ◌∷◌, [], OnOk, On
 ghost use Rattle.ff_rec.specs.Streams.{IsOpen};
 ghost use Rattle.ff_rec.specs.declared.msg.Msg.TheVariants.{Abort};
 ghost use Rattle.ff_stream.specs.Works.{halt_count};
-ghost use Rattle.ff_engine.specs.Callers.{Moves, Breaks, SameRings, TakesMore, caller_of};
+ghost use Rattle.ff_engine.specs.Callers.{Moves, Breaks, SameRings, TakesMore};
+ghost use Rattle.ff_engine.specs.Seen.{caller_of};
 
 use crate::caller::Caller;
 use ff_io::Sink;

@@ -1,7 +1,8 @@
 // What comes over the last ring.
 ghost use Rattle.std.specs.Prelude.{◌≡◌, ◌≢◌, [], None, OnOk, OnErr};
 ghost use Rattle.ff_stream.specs.Works.{halt_count};
-ghost use Rattle.ff_engine.specs.Callers.{Moves, Breaks, SameRings, TakesMore, caller_of};
+ghost use Rattle.ff_engine.specs.Callers.{Moves, Breaks, SameRings, TakesMore};
+ghost use Rattle.ff_engine.specs.Seen.{caller_of};
 
 use crate::caller::Caller;
 use ff_io::Sink;

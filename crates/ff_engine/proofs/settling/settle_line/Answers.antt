@@ -1,8 +1,10 @@
 use Rattle.std.proofs.Common.{◌≡◌, ◌∷◌, [], ◌++◌, map, refl, ap, sym, ◌∙◌, subst, arith}
-use Rattle.std.proofs.lemmas.List.{map-append}
+use Rattle.std.proofs.lemmas.Iterator.Adapters.{YieldsList-from_vec}
+use Rattle.std.proofs.lemmas.Iterator.Consumers.{YieldsList-end}
+use Rattle.std.proofs.lemmas.List.{map-append, map-id}
 use Rattle.std.specs.Vec.Iter.{into_iter_items}
 use Rattle.ff_ring.specs.Ends.{put_of, got_of, there_of, held_of, read_ring, written_ring}
-use Rattle.ff_engine.specs.Lines.{Linked}
+use Rattle.ff_engine.specs.Lines.{IsSettled, Linked}
 use Rattle.ff_engine.proofs.Passing.{JobsChained-push, IsSettled-last}
 use Rattle.ff_engine.proofs.settling.settle_line.Goals as goal
 
@@ -25,6 +27,11 @@ loop-job-preserved g c =
 
 pub returns-clause-settled : goal.returns-clause-settled
 returns-clause-settled g c =
+    let jobs = c.args.jobs in
+    let begins = c.into_iter-job-iterator.ensures.into_iter_gives in
+    let end = YieldsList-end (YieldsList-from_vec {s = c.into_iter-job-iterator.result} jobs.items begins.0 (begins.1 ∙ jobs.ok.0)) c.loop-job.yielded c.loop-job.job-iterator c.loop-job.yielded_by c.next.result c.next.new.self c.in-None.is c.next.ensures.steps in
     let law = c.settle.ensures.law ∙ c.settle.ensures.put in
+    let settled : IsSettled (put_of c.args.first) c.loop-job.yielded (got_of c.settle.new.inn) =
     IsSettled-last (put_of c.args.first) c.loop-job.yielded (put_of c.loop-job.before) (got_of c.settle.new.inn) (there_of c.settle.new.inn) (held_of c.settle.new.out) (got_of c.settle.new.inn)
-    c.loop-job.invariant.chained law refl
+    c.loop-job.invariant.chained law refl in
+    subst (λ js. IsSettled (put_of c.args.first) js (got_of c.settle.new.inn)) (sym (map-id c.loop-job.yielded) ∙ end.0) settled

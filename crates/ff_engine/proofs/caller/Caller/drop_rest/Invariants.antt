@@ -1,5 +1,6 @@
 use Rattle.std.proofs.Common.{◌≡◌}
-use Rattle.ff_engine.specs.Callers.{SameRings, TakesMore, caller_of}
+use Rattle.ff_engine.specs.Callers.{SameRings, TakesMore}
+use Rattle.ff_engine.specs.Seen.{caller_of}
 use Rattle.ff_engine.proofs.caller.Caller.drop_rest.Given as goal
 
 -- what came so far

@@ -1,6 +1,7 @@
 use Rattle.std.proofs.Common.{◌≡◌}
 use Rattle.ff_rec.specs.declared.msg.Msg.TheVariants.{Abort}
-use Rattle.ff_engine.specs.Callers.{SameRings, TakesMore, caller_of}
+use Rattle.ff_engine.specs.Callers.{SameRings, TakesMore}
+use Rattle.ff_engine.specs.Seen.{caller_of}
 use Rattle.ff_engine.proofs.caller.Caller.stop.Given as goal
 
 -- what came so far

@@ -1,5 +1,6 @@
 use Rattle.std.proofs.Common.{◌≡◌}
-use Rattle.ff_engine.specs.Callers.{Moves, SameRings, caller_of}
+use Rattle.ff_engine.specs.Callers.{Moves, SameRings}
+use Rattle.ff_engine.specs.Seen.{caller_of}
 use Rattle.ff_engine.proofs.caller.Caller.take_ready.Given as goal
 
 -- what came so far
