@@ -4,6 +4,7 @@
 mod caller;
 mod crew;
 mod fault;
+mod finishing;
 mod line;
 mod making;
 mod net_job;

@@ -22,10 +22,9 @@ use ff_node::{Comb, Node};
 use ff_ring::Pause;
 use ff_spawn::{RunningJobs, Spawner};
 use ff_steps::make_units;
-use ff_stream::{Ending, run_work};
+use ff_stream::{Ending, take_stream};
 use ff_unit::{Stage, Unit};
 use std::alloc::Global;
-use std::marker::PhantomData;
 use std::sync::Wait;
 
 /// Whether a network can be run by threads: it is a leaf, a comb or a pipe of such.
@@ -80,13 +79,21 @@ pub fn run_net<
         break_up(&mut caller, rt, running, jobs, spawner);
         return Err(denial.into());
     }
-    let line = Line {
+    let mut line = Line {
         caller,
         crew: Crew::new(running, jobs, room),
         rt: waits,
-        joined_by: PhantomData,
     };
-    Ok(run_work(alloc, checked.version(), line, spawner, source, sink)?)
+    match take_stream(alloc, checked.version(), &mut line, source, sink) {
+        Ok(stop) => {
+            let report = line.finish(alloc, spawner, sink)?;
+            Ok(Ending { stop, report })
+        }
+        Err(halt) => {
+            line.give_up(spawner);
+            Err(NetFault::Run(halt.into()))
+        }
+    }
 }
 
 // Ends the jobs of which not all could be started: those that were see an Abort from those that weren't.

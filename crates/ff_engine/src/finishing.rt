@@ -1,0 +1,107 @@
+// How a line of threads is ended.
+ghost use Rattle.std.specs.Prelude.{◌≡◌, ◌≢◌, ◌++◌, ◌∷◌, [], ℕ, List, None, OnOk, OnErr};
+ghost use Rattle.ff_rec.specs.Lines.{Rec};
+ghost use Rattle.ff_rec.specs.Streams.{IsOpen};
+ghost use Rattle.ff_rec.specs.declared.msg.Msg.TheVariants.{Eos};
+ghost use Rattle.ff_stream.specs.Endings.{output_count};
+ghost use Rattle.ff_stream.specs.Jobs.{Job};
+ghost use Rattle.ff_stream.specs.Works.{Ends, IsOpen as IsOpenRun, halt_count};
+ghost use Rattle.ff_stream.specs.declared.fault.Halt.{Halt};
+ghost use Rattle.ff_engine.specs.Callers.{Moves, Breaks, SameRings, EndsOnce};
+ghost use Rattle.ff_engine.specs.Networks.{HasFed, HasStopped, JoinsOnly, WorkedThrough};
+ghost use Rattle.ff_engine.specs.Seen.{caller_of};
+
+use crate::NetJob;
+use crate::caller::Caller;
+use crate::line::Line;
+use crate::report::{all_ended_by_eos, report_of};
+use ff_io::Sink;
+use ff_node::{Comb, Node};
+use ff_port::End;
+use ff_rec::Msg;
+use ff_spawn::Spawner;
+use ff_stream::{Halt, Report, RunFault};
+use ff_unit::Stage;
+use std::alloc::Global;
+use std::sync::Wait;
+
+impl<N: Node + Send + 'static, R: Wait + Drop + Send + 'static> Line<N, R> {
+    /// Tells the units that no record comes any more, writes all that they send, and joins their threads.
+    pub(crate) fn finish<S: Spawner<NetJob<Stage<Comb<N>>, R>>, O: Sink>(
+        self,
+        alloc: Global,
+        by: &mut S,
+        sink: &mut O,
+    ) -> Result<Report, RunFault>
+        ensures ends { (j : Job N) (xs : List Rec) (front : List ℕ)
+            → HasFed N.does j (caller_of self.caller) self.crew xs front
+            → Ends j xs front (O.taken sink.old) (O.taken sink.new) result }
+        ensures work { OnOk result ((j : Job N) (xs : List Rec) (front : List ℕ)
+            → HasFed N.does j (caller_of self.caller) self.crew xs front
+            → WorkedThrough j xs (S.worked by.old) (S.worked by.new)) }
+        ensures counts { O.faults sink.new ≡ output_count (O.faults sink.old) result }
+        ensures joins { JoinsOnly (S.refused by.old) (S.refused by.new) (S.starts by.old) (S.starts by.new)
+            (S.worked by.old) (S.worked by.new) }
+    {
+        let Line {
+            caller,
+            crew,
+            rt,
+        } = self;
+        let mut caller = caller;
+        let shown = close(&mut caller, &rt, sink);
+        let end = caller.end();
+        let (first, last) = caller.into_ends();
+        let mut last = last;
+        let mut units = crew.join(first, &mut last, by);
+        shown?;
+        if end != Some(End::Eos) || !all_ended_by_eos(&units) {
+            return Err(RunFault::NoMemory);
+        }
+        Ok(report_of(alloc, &mut units)?)
+    }
+
+    /// Tells the units that the stream is cut off, and joins their threads. What was written begins an answer, whatever
+    /// records follow.
+    pub(crate) fn give_up<S: Spawner<NetJob<Stage<Comb<N>>, R>>>(self, by: &mut S)
+        ensures opens { (j : Job N) (halt : Halt) (xs : List Rec) (front : List ℕ)
+            → HasStopped N.does j (caller_of self.caller) self.crew xs front
+            → IsOpenRun j halt xs front }
+        ensures joins { JoinsOnly (S.refused by.old) (S.refused by.new) (S.starts by.old) (S.starts by.new)
+            (S.worked by.old) (S.worked by.new) }
+    {
+        let Line {
+            caller,
+            crew,
+            rt,
+        } = self;
+        let mut caller = caller;
+        caller.stop(&rt);
+        let (first, last) = caller.into_ends();
+        let mut last = last;
+        crew.join(first, &mut last, by);
+    }
+}
+
+// Tells the units that no more records come, and shows all that they send. The stream has come to its end then.
+fn close<R: Wait, O: Sink>(caller: &mut Caller, rt: &R, sink: &mut O) -> Result<(), Halt>
+    requires { IsOpen (caller_of caller.old).put }
+    ensures put { OnOk result ((caller_of caller.new).put ≡ (caller_of caller.old).put ++ Eos ∷ []) }
+    ensures moves { OnOk result (Moves (caller_of caller.old) (caller_of caller.new) (O.taken sink.old) (O.taken sink.new)) }
+    ensures written { OnOk result ((caller_of caller.new).text ≡ []) }
+    ensures end { OnOk result ((caller_of caller.new).end ≢ None) }
+    ensures ends { OnErr result (EndsOnce (caller_of caller.old).put (caller_of caller.new).put) }
+    ensures breaks { OnErr result (Breaks (caller_of caller.old) (caller_of caller.new) (O.taken sink.old) (O.taken sink.new)) }
+    ensures rings { SameRings (caller_of caller.old) (caller_of caller.new) }
+    ensures counts { O.faults sink.new ≡ halt_count (O.faults sink.old) result }
+{
+    if let Err(halt) = caller.feed(rt, Msg::Eos, sink) {
+        caller.stop(rt);
+        return Err(halt);
+    }
+    if let Err(halt) = caller.drain(rt, sink) {
+        caller.drop_rest(rt);
+        return Err(halt);
+    }
+    Ok(())
+}
