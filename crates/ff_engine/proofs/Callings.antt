@@ -1,6 +1,6 @@
 -- How the calling thread goes on: one stretch behind another.
 use Rattle.std.proofs.Common.{◌≡◌, ℕ, List, [], ◌∷◌, ◌++◌, refl, sym, ap, ◌∙◌, append_assoc, append-nil}
-use Rattle.std.specs.Prelude.{Option, Some}
+use Rattle.std.specs.Prelude.{Option, None, Some, Result, Ok, Err, OnOk, OnErr}
 use Rattle.std.proofs.KnownBytes.{Appends-nil, Appends-trans}
 use Rattle.std.proofs.lemmas.Grind.{flat_map-append}
 use Rattle.ff_rec.specs.Lines.{Rec, line_of, text}
@@ -9,7 +9,7 @@ use Rattle.ff_rec.specs.declared.msg.Msg.TheVariants.{Item, Mark, Pick, Eos, Abo
 use Rattle.ff_node.specs.Runs.{Message}
 use Rattle.ff_stream.specs.Texts.{Writes, WritesSome}
 use Rattle.ff_unit.specs.MessageLaws.{items-append}
-use Rattle.ff_engine.specs.Callers.{CallerState, Moves, Breaks, SameRings, TakesMore, Receives}
+use Rattle.ff_engine.specs.Callers.{CallerState, Moves, Breaks, SameRings, TakesMore, Receives, Feeds}
 
 -- the rings stay over two stretches
 pub SameRings-refl : (c : CallerState) → SameRings c c
@@ -127,3 +127,29 @@ Breaks-written c e t t' same writes = record {
   taken = writes.taken;
   shows = λ front at. (writes.back, ap (λ ms. text (items ms)) same ∙ at ∙ ap (λ l. front ++ l) writes.splits ∙ sym (append_assoc front writes.put writes.back));
 }
+
+-- a message came that isn't a record
+pub Moves-other : (c e : CallerState) (m : Message) (t : Option (List ℕ)) → ((r : Rec) → m ≡ Item r → ⊥) → Receives c (Some m) e → Moves c e t t
+Moves-other c e (Item r) t other came = absurd (other r refl)
+Moves-other c e Mark t other came = Moves-empty c e Mark t refl came.0 came.2
+Moves-other c e (Pick w) t other came = Moves-empty c e (Pick w) t refl came.0 came.2
+Moves-other c e Eos t other came = Moves-empty c e Eos t refl came.0 came.2
+Moves-other c e Abort t other came = Moves-empty c e Abort t refl came.0 came.2
+
+-- a message was put on the first ring
+pub Moves-fed : (c e : CallerState) (m : Message) (t : Option (List ℕ)) → Feeds c m None e → Moves c e t t
+Moves-fed c e m t fed = record {
+  written = [];
+  taken = Appends-nil t;
+  shows = λ front at.
+      ap (λ s. text (items s.got)) fed ∙ at ∙ ap (λ l. l ++ c.text) (sym (append-nil front)) ∙ ap (λ s. (front ++ []) ++ s.text) (sym fed);
+}
+
+-- a stretch behind which a call goes on, or breaks off
+pub OnOk-Moves : {A E : Type 0} (answer : Result A E) (c d e : CallerState) (t t' t'' : Option (List ℕ)) → Moves c d t t' → OnOk answer (Moves d e t' t'') → OnOk answer (Moves c e t t'')
+OnOk-Moves (Ok a) c d e t t' t'' first second = Moves-trans c d e t t' t'' first second
+OnOk-Moves (Err fault) c d e t t' t'' first second = tt
+
+pub OnErr-Breaks : {A E : Type 0} (answer : Result A E) (c d e : CallerState) (t t' t'' : Option (List ℕ)) → Moves c d t t' → OnErr answer (Breaks d e t' t'') → OnErr answer (Breaks c e t t'')
+OnErr-Breaks (Ok a) c d e t t' t'' first second = tt
+OnErr-Breaks (Err fault) c d e t t' t'' first second = Breaks-behind c d e t t' t'' first second

@@ -31,6 +31,7 @@ module _ {U : Type 0} (d : Doing U) where
   pub handled-jobs : (before : List Message) (started jobs : List (JobState U)) (behind : List Message) (all : AllZip (HasWorked d) started jobs) (c : JobsChained before jobs behind)
       → counted (sum_by (λ (ms : List Message). length ms) (gots_along d before (map (λ job. job.unit) jobs) behind (Chained-jobs before started jobs behind all c)))
       ≤ sum_by handled jobs
+  unfolding Chained-jobs Passes-job
   handled-jobs before [] [] behind all e = omega arith
   handled-jobs before [] (job ∷ jobs) behind all c = absurd all
   handled-jobs before (was ∷ started) [] behind all c = absurd all

@@ -2,10 +2,11 @@
 use Rattle.std.specs.Prelude.{◌≡◌, ℕ, List, [], ◌∷◌, ◌++◌, ◌⊎◌, Option, None, Some}
 use Rattle.std.specs.Io.KnownBytes.{Appends}
 use Rattle.ff_rec.specs.Lines.{Rec, text}
-use Rattle.ff_rec.specs.Streams.{items, closed}
+use Rattle.ff_rec.specs.Streams.{items}
 use Rattle.ff_rec.specs.declared.msg.Msg.TheVariants.{Eos, Abort}
 use Rattle.ff_node.specs.Runs.{Message}
 use Rattle.ff_port.specs.declared.answers.End.{End}
+use Rattle.ff_ring.specs.Bundles.{EndsWith}
 use Rattle.ff_ring.specs.Names.{RingName}
 
 pub record CallerState : Type 0 where
@@ -21,9 +22,8 @@ pub record CallerState : Type 0 where
   pub reads : RingName
 
 -- these messages end with Eos
-pub record EndsWithEos (ms : List Message) : Type 0 where
-  pub front : List Message
-  pub is : ms ≡ closed front
+abbrev pub EndsWithEos : List Message → Type 0
+EndsWithEos ms = EndsWith (Eos ∷ []) ms
 
 -- these bytes were written, and the rest of the text of what came is held
 abbrev pub Shows : List ℕ → CallerState → Type 0
@@ -59,3 +59,8 @@ Receives c (Some m) c' = (c'.got ≡ c.got ++ m ∷ []) × (c'.put ≡ c.put) ×
 -- Eos or Abort was put behind these messages
 abbrev pub EndsOnce : List Message → List Message → Type 0
 EndsOnce before now = (now ≡ before ++ Eos ∷ []) ⊎ (now ≡ before ++ Abort ∷ [])
+
+-- a message was put on the first ring, or comes back for want of room
+abbrev pub Feeds : CallerState → Message → Option Message → CallerState → Type 0
+Feeds c m None c' = c' ≡ record c { put = c.put ++ m ∷ [] }
+Feeds c m (Some back) c' = (back ≡ m) × (c' ≡ c)

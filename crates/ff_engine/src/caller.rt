@@ -2,8 +2,7 @@
 ghost use Rattle.std.specs.Prelude.{◌≡◌, [], None, Some};
 ghost use Rattle.ff_port.specs.declared.answers.End.TheVariants.{Eos};
 ghost use Rattle.ff_ring.specs.Ends.{put_of, got_of, read_ring, written_ring};
-ghost use Rattle.ff_engine.specs.Callers.{EndsWithEos, Receives};
-ghost use Rattle.ff_engine.specs.Seen.{caller_of};
+ghost use Rattle.ff_engine.specs.Callers.{EndsWithEos};
 
 mod feeding;
 mod showing;
@@ -29,6 +28,9 @@ pub(crate) struct Caller {
 }
 
 impl Caller {
+    ghost use Rattle.ff_engine.specs.Callers.{Receives};
+    ghost use Rattle.ff_engine.specs.Seen.{caller_of};
+
     /// The ends of a line at which nothing happened.
     pub(crate) fn new(
         alloc: Global,
@@ -90,13 +92,15 @@ impl Caller {
         Some(m)
     }
 
-    /// A pause. Before it parks, it hands over what waits.
-    pub(crate) fn rest<R: Wait>(&mut self, rt: &R)
+    /// A pause. Before it parks, it hands over what waits. It answers whether it parked.
+    pub(crate) fn rest<R: Wait>(&mut self, rt: &R) -> bool
         ensures { caller_of self.new ≡ caller_of self.old }
     {
-        if !self.pause.spin() {
-            self.first.flush();
-            self.pause.park(rt);
+        if self.pause.spin() {
+            return false;
         }
+        self.first.flush();
+        self.pause.park(rt);
+        true
     }
 }

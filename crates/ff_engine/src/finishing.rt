@@ -50,6 +50,7 @@ impl<N: Node + Send + 'static, R: Wait + Drop + Send + 'static> Line<N, R> {
         } = self;
         let mut caller = caller;
         let shown = close(&mut caller, &rt, sink);
+        caller.hand_over(&rt);
         let end = caller.end();
         let (first, last) = caller.into_ends();
         let mut last = last;

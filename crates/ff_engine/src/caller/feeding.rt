@@ -3,7 +3,7 @@ ghost use Rattle.std.specs.Prelude.{◌≡◌, ◌++◌, ◌∷◌, [], OnOk, On
 ghost use Rattle.ff_rec.specs.Streams.{IsOpen};
 ghost use Rattle.ff_rec.specs.declared.msg.Msg.TheVariants.{Abort};
 ghost use Rattle.ff_stream.specs.Works.{halt_count};
-ghost use Rattle.ff_engine.specs.Callers.{Moves, Breaks, SameRings, TakesMore};
+ghost use Rattle.ff_engine.specs.Callers.{Moves, Breaks, SameRings, TakesMore, Feeds};
 ghost use Rattle.ff_engine.specs.Seen.{caller_of};
 
 use crate::caller::Caller;
@@ -29,9 +29,20 @@ impl Caller {
         ensures rings { SameRings (caller_of self.old) (caller_of self.new) }
         ensures counts { O.faults sink.new ≡ halt_count (O.faults sink.old) result }
     {
+        match self.try_feed(m) {
+            None => Ok(()),
+            Some(back) => self.feed_late(rt, back, sink),
+        }
+    }
+
+    // Puts a message on the first ring. Where there is no room, it comes back.
+    fn try_feed(&mut self, m: Msg<Record>) -> Option<Msg<Record>>
+        requires { IsOpen (caller_of self.old).put }
+        ensures { Feeds (caller_of self.old) m result (caller_of self.new) }
+    {
         match self.first.try_put(m) {
-            Put::Done => Ok(()),
-            Put::Full(back) | Put::NoMemory(back) => self.feed_late(rt, back, sink),
+            Put::Done => None,
+            Put::Full(back) | Put::NoMemory(back) => Some(back),
         }
     }
 
@@ -51,12 +62,13 @@ impl Caller {
         ensures rings { SameRings (caller_of self.old) (caller_of self.new) }
         ensures counts { O.faults sink.new ≡ halt_count (O.faults sink.old) result }
     {
+        self.pause.reset();
         let mut m = m;
         for _ in rt.forever() {
             self.turn(rt, sink)?;
-            match self.first.try_put(m) {
-                Put::Done => return Ok(()),
-                Put::Full(back) | Put::NoMemory(back) => m = back,
+            match self.try_feed(m) {
+                None => return Ok(()),
+                Some(back) => m = back,
             }
         }
         unreachable!()
@@ -69,16 +81,38 @@ impl Caller {
         ensures more { TakesMore (caller_of self.old) (caller_of self.new) }
         ensures rings { SameRings (caller_of self.old) (caller_of self.new) }
     {
-        let mut m = Msg::Abort;
-        for _ in rt.forever() {
-            match self.first.try_put(m) {
-                Put::Done => break,
-                Put::Full(back) | Put::NoMemory(back) => m = back,
-            }
-            if self.take().is_none() {
-                self.rest(rt);
-            }
-        }
+        self.feed_dropping(rt, Msg::Abort);
         self.drop_rest(rt);
+        self.hand_over(rt);
+    }
+
+    // Puts a message on the first ring. Until there is room, what comes is dropped.
+    fn feed_dropping<R: Wait>(&mut self, rt: &R, m: Msg<Record>)
+        requires { IsOpen (caller_of self.old).put }
+        ensures put { (caller_of self.new).put ≡ (caller_of self.old).put ++ m ∷ [] }
+        ensures more { TakesMore (caller_of self.old) (caller_of self.new) }
+        ensures rings { SameRings (caller_of self.old) (caller_of self.new) }
+    {
+        let mut m = m;
+        for _ in rt.forever() {
+            match self.try_feed(m) {
+                None => return,
+                Some(back) => m = back,
+            }
+            self.drop_ready(rt);
+        }
+        unreachable!()
+    }
+
+    /// Hands over all that waits. The units wait for the end of the stream, which may be among it.
+    pub(crate) fn hand_over<R: Wait>(&mut self, rt: &R)
+        ensures { caller_of self.new ≡ caller_of self.old }
+    {
+        for _ in rt.forever() {
+            if self.first.flush() {
+                break;
+            }
+            self.rest(rt);
+        }
     }
 }

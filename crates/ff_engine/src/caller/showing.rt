@@ -21,10 +21,12 @@ impl Caller {
     /// Shows all that comes up to the end, and writes the rest of the text.
     pub(crate) fn drain<R: Wait, O: Sink>(&mut self, rt: &R, sink: &mut O) -> Result<(), Halt>
         ensures put { (caller_of self.new).put ≡ (caller_of self.old).put }
-        ensures moves { OnOk result (Moves (caller_of self.old) (caller_of self.new) (O.taken sink.old) (O.taken sink.new)) }
+        ensures moves { OnOk result
+            (Moves (caller_of self.old) (caller_of self.new) (O.taken sink.old) (O.taken sink.new)) }
         ensures written { OnOk result ((caller_of self.new).text ≡ []) }
         ensures end { OnOk result ((caller_of self.new).end ≢ None) }
-        ensures breaks { OnErr result (Breaks (caller_of self.old) (caller_of self.new) (O.taken sink.old) (O.taken sink.new)) }
+        ensures breaks { OnErr result
+            (Breaks (caller_of self.old) (caller_of self.new) (O.taken sink.old) (O.taken sink.new)) }
         ensures rings { SameRings (caller_of self.old) (caller_of self.new) }
         ensures counts { O.faults sink.new ≡ halt_count (O.faults sink.old) result }
     {
@@ -34,56 +36,83 @@ impl Caller {
             }
             self.turn(rt, sink)?;
         }
-        Ok(self.text.write(sink)?)
+        self.write_held(sink)
     }
 
-    /// Hands over what waits, and shows what comes until nothing has come for some milliseconds.
+    /// Hands over what waits, shows what comes until nothing has come for some milliseconds, and writes it.
     pub(crate) fn show<R: Wait, O: Sink>(&mut self, rt: &R, sink: &mut O) -> Result<(), Halt>
         ensures put { (caller_of self.new).put ≡ (caller_of self.old).put }
-        ensures moves { OnOk result (Moves (caller_of self.old) (caller_of self.new) (O.taken sink.old) (O.taken sink.new)) }
-        ensures breaks { OnErr result (Breaks (caller_of self.old) (caller_of self.new) (O.taken sink.old) (O.taken sink.new)) }
+        ensures moves { OnOk result
+            (Moves (caller_of self.old) (caller_of self.new) (O.taken sink.old) (O.taken sink.new)) }
+        ensures breaks { OnErr result
+            (Breaks (caller_of self.old) (caller_of self.new) (O.taken sink.old) (O.taken sink.new)) }
         ensures rings { SameRings (caller_of self.old) (caller_of self.new) }
         ensures counts { O.faults sink.new ≡ halt_count (O.faults sink.old) result }
     {
-        self.first.flush();
-        let mut quiet = 0;
-        for _ in rt.forever() {
-            if quiet == QUIET_PARKS || self.end.is_some() {
-                break;
-            }
-            if self.take_ready(sink)? {
-                self.pause.reset();
-                quiet = 0;
-            } else if !self.pause.spin() {
-                self.pause.park(rt);
-                quiet += 1;
-            }
-        }
-        self.pause.reset();
-        Ok(self.text.write(sink)?)
+        self.show_till_quiet(rt, sink)?;
+        self.write_held(sink)
     }
 
-    /// Shows what has come. Where nothing has, it pauses.
-    pub(crate) fn turn<R: Wait, O: Sink>(&mut self, rt: &R, sink: &mut O) -> Result<(), Halt>
+    // Shows what comes until nothing has come for some milliseconds.
+    fn show_till_quiet<R: Wait, O: Sink>(&mut self, rt: &R, sink: &mut O) -> Result<(), Halt>
         ensures put { (caller_of self.new).put ≡ (caller_of self.old).put }
-        ensures moves { OnOk result (Moves (caller_of self.old) (caller_of self.new) (O.taken sink.old) (O.taken sink.new)) }
-        ensures breaks { OnErr result (Breaks (caller_of self.old) (caller_of self.new) (O.taken sink.old) (O.taken sink.new)) }
+        ensures moves { OnOk result
+            (Moves (caller_of self.old) (caller_of self.new) (O.taken sink.old) (O.taken sink.new)) }
+        ensures breaks { OnErr result
+            (Breaks (caller_of self.old) (caller_of self.new) (O.taken sink.old) (O.taken sink.new)) }
+        ensures rings { SameRings (caller_of self.old) (caller_of self.new) }
+        ensures counts { O.faults sink.new ≡ halt_count (O.faults sink.old) result }
+    {
+        let mut quiet = 0;
+        for _ in rt.forever() {
+            if quiet >= QUIET_PARKS || self.end.is_some() {
+                break;
+            }
+            let parked = self.turn(rt, sink)?;
+            quiet = if parked { quiet + 1 } else { 0 };
+        }
+        Ok(())
+    }
+
+    /// Shows what has come. Where nothing has, it pauses. It answers whether it parked.
+    pub(crate) fn turn<R: Wait, O: Sink>(&mut self, rt: &R, sink: &mut O) -> Result<bool, Halt>
+        ensures put { (caller_of self.new).put ≡ (caller_of self.old).put }
+        ensures moves { OnOk result
+            (Moves (caller_of self.old) (caller_of self.new) (O.taken sink.old) (O.taken sink.new)) }
+        ensures breaks { OnErr result
+            (Breaks (caller_of self.old) (caller_of self.new) (O.taken sink.old) (O.taken sink.new)) }
         ensures rings { SameRings (caller_of self.old) (caller_of self.new) }
         ensures counts { O.faults sink.new ≡ halt_count (O.faults sink.old) result }
     {
         if self.take_ready(sink)? {
             self.pause.reset();
-        } else {
-            self.rest(rt);
+            return Ok(false);
         }
-        Ok(())
+        Ok(self.rest(rt))
+    }
+
+    // Writes what is held.
+    fn write_held<O: Sink>(&mut self, sink: &mut O) -> Result<(), Halt>
+        ensures put { (caller_of self.new).put ≡ (caller_of self.old).put }
+        ensures moves { OnOk result
+            (Moves (caller_of self.old) (caller_of self.new) (O.taken sink.old) (O.taken sink.new)) }
+        ensures written { OnOk result ((caller_of self.new).text ≡ []) }
+        ensures end { (caller_of self.new).end ≡ (caller_of self.old).end }
+        ensures breaks { OnErr result
+            (Breaks (caller_of self.old) (caller_of self.new) (O.taken sink.old) (O.taken sink.new)) }
+        ensures rings { SameRings (caller_of self.old) (caller_of self.new) }
+        ensures counts { O.faults sink.new ≡ halt_count (O.faults sink.old) result }
+    {
+        Ok(self.text.write(sink)?)
     }
 
     // Takes what has come and prints it. It answers whether something came.
     fn take_ready<O: Sink>(&mut self, sink: &mut O) -> Result<bool, Halt>
         ensures put { (caller_of self.new).put ≡ (caller_of self.old).put }
-        ensures moves { OnOk result (Moves (caller_of self.old) (caller_of self.new) (O.taken sink.old) (O.taken sink.new)) }
-        ensures breaks { OnErr result (Breaks (caller_of self.old) (caller_of self.new) (O.taken sink.old) (O.taken sink.new)) }
+        ensures moves { OnOk result
+            (Moves (caller_of self.old) (caller_of self.new) (O.taken sink.old) (O.taken sink.new)) }
+        ensures breaks { OnErr result
+            (Breaks (caller_of self.old) (caller_of self.new) (O.taken sink.old) (O.taken sink.new)) }
         ensures rings { SameRings (caller_of self.old) (caller_of self.new) }
         ensures counts { O.faults sink.new ≡ halt_count (O.faults sink.old) result }
     {
@@ -98,8 +127,10 @@ impl Caller {
     // Takes a message and prints what it carries. It answers whether one came.
     fn receive<O: Sink>(&mut self, sink: &mut O) -> Result<bool, Halt>
         ensures put { (caller_of self.new).put ≡ (caller_of self.old).put }
-        ensures moves { OnOk result (Moves (caller_of self.old) (caller_of self.new) (O.taken sink.old) (O.taken sink.new)) }
-        ensures breaks { OnErr result (Breaks (caller_of self.old) (caller_of self.new) (O.taken sink.old) (O.taken sink.new)) }
+        ensures moves { OnOk result
+            (Moves (caller_of self.old) (caller_of self.new) (O.taken sink.old) (O.taken sink.new)) }
+        ensures breaks { OnErr result
+            (Breaks (caller_of self.old) (caller_of self.new) (O.taken sink.old) (O.taken sink.new)) }
         ensures rings { SameRings (caller_of self.old) (caller_of self.new) }
         ensures counts { O.faults sink.new ≡ halt_count (O.faults sink.old) result }
     {
@@ -123,9 +154,20 @@ impl Caller {
             if self.end.is_some() {
                 break;
             }
-            if self.take().is_none() {
-                self.rest(rt);
-            }
+            self.drop_ready(rt);
+        }
+    }
+
+    /// Takes a message and drops it. Where none has come, it pauses.
+    pub(crate) fn drop_ready<R: Wait>(&mut self, rt: &R)
+        ensures put { (caller_of self.new).put ≡ (caller_of self.old).put }
+        ensures more { TakesMore (caller_of self.old) (caller_of self.new) }
+        ensures rings { SameRings (caller_of self.old) (caller_of self.new) }
+    {
+        if self.take().is_some() {
+            self.pause.reset();
+        } else {
+            self.rest(rt);
         }
     }
 }
