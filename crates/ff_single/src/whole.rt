@@ -10,7 +10,7 @@ use ff_mean::{Outcome, run_one};
 use ff_net::Checked;
 use ff_node::Node;
 use ff_rec::{Record, Records};
-use ff_stream::{Ending, Halt, Report, RunFault, Work, run_work, write_records};
+use ff_stream::{Ending, Halt, Intake, Report, RunFault, Work, run_work, write_records};
 use std::alloc::Global;
 
 /// A network, and the records that it was given: what it means for them is computed and written at the end.
@@ -22,10 +22,7 @@ pub(crate) struct Whole<'a, N: Node> {
     records: Records,
 }
 
-impl<'a, N: Node> Work<N> for Whole<'a, N> {
-    type Closer = ();
-
-    ghost use Rattle.std.specs.Prelude.{⊤};
+impl<'a, N: Node> Intake<N> for Whole<'a, N> {
     ghost use Rattle.ff_net.specs.Tree.{tree_of};
     ghost use Rattle.ff_stream.specs.Jobs.{job};
     ghost use Rattle.ff_single.specs.Wholes.{Gathers};
@@ -36,10 +33,6 @@ impl<'a, N: Node> Work<N> for Whole<'a, N> {
         j xs front };
 
     ghost halted = { λ j _ halt xs front. IsOpen j halt xs front };
-
-    ghost told = { λ _ _ _ _. ⊤ };
-
-    ghost closes = { λ _ _. ⊤ };
 
     fn take<O: Sink>(&mut self, r: Record, _sink: &mut O) -> Result<(), Halt> {
         Ok(self.records.push(r)?)
@@ -52,13 +45,10 @@ impl<'a, N: Node> Work<N> for Whole<'a, N> {
     fn drops(&self) -> bool {
         false
     }
+}
 
-    fn finish<O: Sink>(
-        self,
-        alloc: Global,
-        _by: &mut (),
-        sink: &mut O,
-    ) -> Result<Report, RunFault> {
+impl<'a, N: Node> Work<N> for Whole<'a, N> {
+    fn finish<O: Sink>(self, alloc: Global, sink: &mut O) -> Result<Report, RunFault> {
         match run_one(alloc, self.checked, self.limit, self.keep, self.records)? {
             Outcome::Over => Err(RunFault::Tasks),
             Outcome::Done {
@@ -72,7 +62,7 @@ impl<'a, N: Node> Work<N> for Whole<'a, N> {
         }
     }
 
-    fn give_up(self, _by: &mut ()) {}
+    fn give_up(self) {}
 }
 
 /// Reads the whole input, computes what the network means for its records, and writes that.
@@ -95,5 +85,5 @@ pub(crate) fn run_whole<N: Node, I: Source, O: Sink>(
         keep,
         records: Records::new(alloc),
     };
-    run_work(alloc, checked.version(), whole, &mut (), source, sink)
+    run_work(alloc, checked.version(), whole, source, sink)
 }

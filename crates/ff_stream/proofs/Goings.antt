@@ -10,19 +10,6 @@ use Rattle.ff_stream.specs.Works.{Goes, IsOpen, Left, Halts, Drops}
 use Rattle.ff_stream.specs.declared.fault.Halt.{Halt}
 use Rattle.ff_stream.specs.declared.fault.Halt.TheVariants.{NoMemory}
 
--- what was written of the same records
-IsOpen-at : {N : Type 0} (j : Job N) (halt : Halt) (xs ys : List Rec) (front more : List ℕ) → xs ≡ ys → front ≡ more
-    → IsOpen j halt xs front → IsOpen j halt ys more
-IsOpen-at j halt xs ys front more same equal opened =
-    subst (λ l. IsOpen j halt l more) same (subst (λ l. IsOpen j halt xs l) equal opened)
-
--- what was written whatever follows, and so whatever follows some of it
-pub IsOpen-more : {N : Type 0} (j : Job N) (halt : Halt) (xs more : List Rec) (front : List ℕ) → IsOpen j halt xs front → IsOpen j halt (xs ++ more) front
-IsOpen-more j halt xs more front opened = record {
-  begun = λ zs. subst (λ l. Begun j halt l front) (sym (append_assoc xs more zs)) (opened.begun (more ++ zs));
-  waits = opened.waits;
-}
-
 module _ {N W : Type 0} (stands : Job N → W → List Rec → List ℕ → Type 0) where
   stands-at : (j : Job N) (w : W) (xs ys : List Rec) (front more : List ℕ) → xs ≡ ys → front ≡ more → stands j w xs front → stands j w ys more
   stands-at j w xs ys front more same equal at = subst (λ l. stands j w l more) same (subst (λ l. stands j w xs l) equal at)
@@ -119,15 +106,6 @@ module _ {N W : Type 0} (stands : Job N → W → List Rec → List ℕ → Type
   -- work that was given up
   module _ (v : W) (stood : (j : Job N) (xs : List Rec) (front : List ℕ) → stands j v xs front → IsOpen j NoMemory xs front)
       (broke : (j : Job N) (halt : Halt) (xs : List Rec) (front : List ℕ) → halted j v halt xs front → IsOpen j halt xs front) where
-    IsOpen-left : (j : Job N) (halt : Halt) (xs : List Rec) (front : List ℕ) → Left stands halted j v halt xs front → IsOpen j halt xs front
+    pub IsOpen-left : (j : Job N) (halt : Halt) (xs : List Rec) (front : List ℕ) → Left stands halted j v halt xs front → IsOpen j halt xs front
     IsOpen-left j halt xs front (inl left) = subst (λ h. IsOpen j h xs front) (sym left.0) (stood j xs front left.1)
     IsOpen-left j halt xs front (inr left) = broke j halt xs front left
-
-    -- what it wrote before
-    pub IsOpen-halts : (w : W) (rs : List Rec) (halt : Halt) (t u : Option (List ℕ)) (halts : Halts stands halted w rs halt v t u)
-        → (j : Job N) (xs : List Rec) (front : List ℕ) → stands j w xs front → IsOpen j halt (xs ++ rs) (front ++ halts.put)
-    IsOpen-halts w rs halt t u halts j xs front at =
-        IsOpen-at j halt ((xs ++ halts.first) ++ halts.rest) (xs ++ rs) (front ++ halts.put) (front ++ halts.put)
-        (append_assoc xs halts.first halts.rest ∙ ap (λ l. xs ++ l) (sym halts.splits)) refl
-        (IsOpen-more j halt (xs ++ halts.first) halts.rest (front ++ halts.put)
-        (IsOpen-left j halt (xs ++ halts.first) (front ++ halts.put) (halts.leaves j xs front at)))

@@ -3,7 +3,7 @@ pub mod Jobs
 pub mod Endings
 pub mod Works
 pub mod Reads
-pub mod Intakes
+pub mod Takings
 pub mod Texts
 pub mod Nodes
 pub mod Flows

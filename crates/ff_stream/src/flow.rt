@@ -1,7 +1,7 @@
 // A node that takes records as they are read.
 mod steps;
 
-use crate::{Halt, Report, RunFault, Text, Work};
+use crate::{Halt, Intake, Report, RunFault, Text, Work};
 use ff_io::Sink;
 use ff_node::{Node, Sends};
 use ff_rec::Record;
@@ -19,20 +19,13 @@ pub(crate) struct Flow<M> {
     text: Text,
 }
 
-impl<N: Node, M: Node> Work<N> for Flow<M> {
-    type Closer = ();
-
-    ghost use Rattle.std.specs.Prelude.{⊤};
+impl<N: Node, M: Node> Intake<N> for Flow<M> {
     ghost use Rattle.ff_stream.specs.Flows.{Flows};
     ghost use Rattle.ff_stream.specs.Works.{IsOpen};
 
     ghost stands = { λ j w xs front. Flows M.does j w xs front };
 
     ghost halted = { λ j _ halt xs front. IsOpen j halt xs front };
-
-    ghost told = { λ _ _ _ _. ⊤ };
-
-    ghost closes = { λ _ _. ⊤ };
 
     fn take<O: Sink>(&mut self, r: Record, sink: &mut O) -> Result<(), Halt> {
         hand(self, r)?;
@@ -46,17 +39,14 @@ impl<N: Node, M: Node> Work<N> for Flow<M> {
     fn drops(&self) -> bool {
         self.ended
     }
+}
 
-    fn finish<O: Sink>(
-        mut self,
-        _alloc: Global,
-        _by: &mut (),
-        sink: &mut O,
-    ) -> Result<Report, RunFault> {
+impl<N: Node, M: Node> Work<N> for Flow<M> {
+    fn finish<O: Sink>(mut self, _alloc: Global, sink: &mut O) -> Result<Report, RunFault> {
         end(&mut self)?;
         self.text.write(sink)?;
         Ok(report_of(&mut self.sends))
     }
 
-    fn give_up(self, _by: &mut ()) {}
+    fn give_up(self) {}
 }

@@ -1,76 +1,43 @@
-// Records come in at one side and text goes out at the other.
-ghost use Rattle.std.specs.Prelude.{◌≡◌, ◌<◌, [], None, length, IfOk, IfErr, OnOk};
-ghost use Rattle.ff_stream.specs.Intakes.{source_count};
-ghost use Rattle.ff_stream.specs.Reads.{Reads, ReadsSome, StopsAt, last_of};
-ghost use Rattle.ff_stream.specs.Works.{Goes, Halts, halt_count};
+// How the records of a stream are taken in.
+ghost use Rattle.std.specs.Prelude.{IsTrue, IfErr, OnOk, ◌≡◌, [], ◌∷◌};
 
-use crate::piece::{hand_all, take_piece};
-use crate::{Halt, Stop, Work};
-use ff_io::{Sink, Source};
+use crate::Halt;
+use ff_io::Sink;
 use ff_node::Node;
-use ff_rec::LineReader;
-use std::alloc::Global;
-use std::collections::VecDeque;
+use ff_rec::Record;
 
-/// Reads pieces into `room` and hands their records to the work, until no more is to be read.
-pub(crate) fn take_all<N: Node, W: Work<N>, I: Source, O: Sink>(
-    alloc: Global,
-    room: &mut [u8],
-    reader: &mut LineReader,
-    work: &mut W,
-    source: &mut I,
-    sink: &mut O,
-) -> Result<Stop, Halt>
-    requires room { 0 < length room.old }
-    requires reader { reader.old.fault ≡ None }
-    ensures ok { OnOk result (Reads W.stands work.old reader.old work.new reader.new
-        (I.left source.old) (I.left source.new) (O.taken sink.old) (O.taken sink.new)) }
-    ensures stop { IfOk result (λ stop. StopsAt stop reader.new.fault
-        (I.ended source.new) (I.left source.new)) }
-    ensures err { IfErr result (λ halt. ReadsSome W.stands W.halted
-        work.old reader.old halt work.new
-        (I.left source.old) (I.left source.new) (O.taken sink.old) (O.taken sink.new)) }
-    ensures input_faults { I.faults source.new ≡ source_count (I.faults source.old) result }
-    ensures output_faults { O.faults sink.new ≡ halt_count (O.faults sink.old) result }
-{
-    let mut queue = VecDeque::new(alloc);
-    'pieces: loop {
-        let Ok(got) = source.read(room) else {
-            return Ok(Stop::Read);
-        };
-        if got == 0 {
-            return Ok(Stop::End);
-        }
-        if let Some(fault) = take_piece(&mut queue, &room[..got], reader, work, sink)? {
-            return Ok(Stop::Line(fault));
-        }
-        // The next bytes may be long in coming.
-        if got < room.len() {
-            work.pause(sink)?;
-        }
-    }
-}
+/// What takes the records of a stream one after another as they are read, and may write what is sent for them then.
+pub trait Intake<N: Node> {
+    ghost use Rattle.std.specs.Prelude.{ℕ, List, IsTrue, IfErr, OnOk, ◌≡◌, [], ◌∷◌};
+    ghost use Rattle.ff_rec.specs.Lines.{Rec};
+    ghost use Rattle.ff_stream.specs.Jobs.{Job};
+    ghost use Rattle.ff_stream.specs.Works.{Goes, Halts, Drops, halt_count};
+    ghost use Rattle.ff_stream.specs.declared.fault.Halt.{Halt};
 
-/// Hands the record of a last line without a newline to the work. Where the reading stopped before the end, that line
-/// isn't used.
-pub(crate) fn take_last<N: Node, W: Work<N>, O: Sink>(
-    alloc: Global,
-    reader: LineReader,
-    stop: Stop,
-    work: &mut W,
-    sink: &mut O,
-) -> Result<(), Halt>
-    requires { stop ≡ Stop.End → reader.fault ≡ None }
-    ensures ok { OnOk result (Goes W.stands work.old (last_of stop reader.line) work.new
-        (O.taken sink.old) (O.taken sink.new)) }
-    ensures err { IfErr result (λ halt. Halts W.stands W.halted work.old
-        (last_of stop reader.line) halt work.new (O.taken sink.old) (O.taken sink.new)) }
-    ensures counts { O.faults sink.new ≡ halt_count (O.faults sink.old) result }
-{
-    let Stop::End = stop else {
-        return Ok(());
-    };
-    let mut records = Vec::new(alloc);
-    reader.finish(&mut records)?;
-    hand_all(&mut VecDeque::from(records), work, sink)
+    /// In this job it took these records since it began, and these bytes were written.
+    ghost stands: { Job N → Self → List Rec → List ℕ → Type 0 };
+
+    /// In this job it broke off at this halt, after it took these records, and these bytes were written.
+    ghost halted: { Job N → Self → Halt → List Rec → List ℕ → Type 0 };
+
+    /// Takes a record. After a refusal it takes no more.
+    fn take<O: Sink>(&mut self, r: Record, sink: &mut O) -> Result<(), Halt>
+        ensures ok { OnOk result (Goes stands self.old (r ∷ []) self.new
+            (O.taken sink.old) (O.taken sink.new)) }
+        ensures err { IfErr result (λ halt. Halts stands halted self.old (r ∷ []) halt self.new
+            (O.taken sink.old) (O.taken sink.new)) }
+        ensures counts { O.faults sink.new ≡ halt_count (O.faults sink.old) result };
+
+    /// Called where the next records may be long in coming: what is held for the sink is written. After a refusal it
+    /// takes no more.
+    fn pause<O: Sink>(&mut self, sink: &mut O) -> Result<(), Halt>
+        ensures ok { OnOk result (Goes stands self.old [] self.new
+            (O.taken sink.old) (O.taken sink.new)) }
+        ensures err { IfErr result (λ halt. Halts stands halted self.old [] halt self.new
+            (O.taken sink.old) (O.taken sink.new)) }
+        ensures counts { O.faults sink.new ≡ halt_count (O.faults sink.old) result };
+
+    /// Whether no record that is to come changes anything. Then none need be made.
+    fn drops(&self) -> bool
+        ensures { IsTrue result → Drops stands self.now };
 }

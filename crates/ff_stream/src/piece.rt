@@ -4,7 +4,7 @@ ghost use Rattle.ff_rec.specs.Reading.{given};
 ghost use Rattle.ff_stream.specs.Reads.{HasTaken};
 ghost use Rattle.ff_stream.specs.Works.{Goes, Halts, halt_count};
 
-use crate::{Halt, Work};
+use crate::{Halt, Intake};
 use ff_io::Sink;
 use ff_node::Node;
 use ff_rec::{FeedFault, LineFault, LineReader, NoMemory, Record};
@@ -16,7 +16,7 @@ const PART: usize = 1024;
 
 /// Hands the records of a piece to the work. The answer is the limit that the piece passes behind them, if it does. Where
 /// the work drops what comes, the piece is read for its limits alone.
-pub(crate) fn take_piece<N: Node, W: Work<N>, O: Sink>(
+pub(crate) fn take_piece<N: Node, W: Intake<N>, O: Sink>(
     queue: &mut VecDeque<Record>,
     piece: &[u8],
     reader: &mut LineReader,
@@ -50,7 +50,7 @@ pub(crate) fn take_piece<N: Node, W: Work<N>, O: Sink>(
 }
 
 // Hands the records of a part of it to the work.
-fn take_part<N: Node, W: Work<N>, O: Sink>(
+fn take_part<N: Node, W: Intake<N>, O: Sink>(
     queue: &mut VecDeque<Record>,
     part: &[u8],
     reader: &mut LineReader,
@@ -112,7 +112,7 @@ fn pass_over(reader: &mut LineReader, bytes: &[u8]) -> Result<Option<LineFault>,
 }
 
 /// Hands these records to the work, one after another.
-pub(crate) fn hand_all<N: Node, W: Work<N>, O: Sink>(
+pub(crate) fn hand_all<N: Node, W: Intake<N>, O: Sink>(
     queue: &mut VecDeque<Record>,
     work: &mut W,
     sink: &mut O,

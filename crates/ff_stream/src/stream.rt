@@ -30,5 +30,5 @@ pub fn run_stream<N: Node, M: Node, I: Source, O: Sink>(
     ensures output_faults { O.faults sink.new ≡ output_count (O.faults sink.old) result }
 {
     let flow = open(alloc, node, keep);
-    run_work::<N, Flow<M>, I, O>(alloc, version, flow, &mut (), source, sink)
+    run_work::<N, Flow<M>, I, O>(alloc, version, flow, source, sink)
 }

@@ -5,7 +5,7 @@ use Rattle.ff_stream.proofs.piece.hand_all.Given as goal
 -- how many of the records were handed over
 abbrev pub invariant-loop-r : goal.invariant-loop-r
 invariant-loop-r g l = record {
-  hands : Hands g.W.Work.stands l.initial.work l.initial.queue.items l.work l.queue.items (g.O.Sink.taken l.initial.sink) (g.O.Sink.taken l.sink);
+  hands : Hands g.W.Intake.stands l.initial.work l.initial.queue.items l.work l.queue.items (g.O.Sink.taken l.initial.sink) (g.O.Sink.taken l.sink);
   silent : g.O.Sink.faults l.sink ≡ g.O.Sink.faults l.initial.sink;
 }
 

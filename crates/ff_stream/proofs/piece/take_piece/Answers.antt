@@ -15,17 +15,17 @@ returns-in_err-pass_over-clause-err g c =
     let p = err_from_is_err_and c.from_residual.result c.from_residual.ensures.1 in
     let rest = c.loop-rest.rest.now in
     rw (p.1, p.2)
-    (Halts-part g.W.Work.stands g.W.Work.halted c.args.work.now c.loop-rest.work c.args.reader.now NoMemory c.args.piece.now [] _ _
-    (ReadsSome-piece g.W.Work.stands g.W.Work.halted c.args.work.now c.loop-rest.work c.loop-rest.work c.args.reader.now c.loop-rest.reader NoMemory (Some c.args.piece.now) (Some rest) (Some []) _ _ _ rest
-    c.loop-rest.invariant.reads (Consumes-all rest) (Halts-memory g.W.Work.stands g.W.Work.halted c.loop-rest.work (given c.loop-rest.reader rest) _)))
+    (Halts-part g.W.Intake.stands g.W.Intake.halted c.args.work.now c.loop-rest.work c.args.reader.now NoMemory c.args.piece.now [] _ _
+    (ReadsSome-piece g.W.Intake.stands g.W.Intake.halted c.args.work.now c.loop-rest.work c.loop-rest.work c.args.reader.now c.loop-rest.reader NoMemory (Some c.args.piece.now) (Some rest) (Some []) _ _ _ rest
+    c.loop-rest.invariant.reads (Consumes-all rest) (Halts-memory g.W.Intake.stands g.W.Intake.halted c.loop-rest.work (given c.loop-rest.reader rest) _)))
 
 pub returns-then-drops-clause-ok : goal.returns-then-drops-clause-ok
 returns-then-drops-clause-ok g c =
     let rest = c.loop-rest.rest.now in
-    Goes-whole g.W.Work.stands c.args.work.now c.loop-rest.work c.args.reader.now c.pass_over.new.reader c.args.piece.now [] _ _
-    (Reads-piece g.W.Work.stands c.args.work.now c.loop-rest.work c.loop-rest.work c.args.reader.now c.loop-rest.reader c.pass_over.new.reader
+    Goes-whole g.W.Intake.stands c.args.work.now c.loop-rest.work c.args.reader.now c.pass_over.new.reader c.args.piece.now [] _ _
+    (Reads-piece g.W.Intake.stands c.args.work.now c.loop-rest.work c.loop-rest.work c.args.reader.now c.loop-rest.reader c.pass_over.new.reader
     (Some c.args.piece.now) (Some rest) (Some []) _ _ _ rest c.loop-rest.invariant.reads (Consumes-all rest) c.in_ok-pass_over.ensures.read.state
-    (Goes-drops g.W.Work.stands c.loop-rest.work (given c.loop-rest.reader rest) _ (c.drops.ensures c.if-drops.true))) refl
+    (Goes-drops g.W.Intake.stands c.loop-rest.work (given c.loop-rest.reader rest) _ (c.drops.ensures c.if-drops.true))) refl
 
 pub returns-then-drops-clause-read : goal.returns-then-drops-clause-read
 returns-then-drops-clause-read g c =
@@ -39,8 +39,8 @@ returns-in_err-fault-clause-err g c =
     let behind = c.split_at.result.1.now in
     let read = Consumes-part c.loop-rest.rest.now part behind c.min.result c.split_at.ensures.front c.split_at.ensures.back in
     rw (p.1, p.2)
-    (Halts-part g.W.Work.stands g.W.Work.halted c.args.work.now c.take_part.new.work c.args.reader.now c.in_err-fault.field-0.0 c.args.piece.now behind _ _
-    (ReadsSome-piece g.W.Work.stands g.W.Work.halted c.args.work.now c.loop-rest.work c.take_part.new.work c.args.reader.now c.loop-rest.reader c.in_err-fault.field-0.0
+    (Halts-part g.W.Intake.stands g.W.Intake.halted c.args.work.now c.take_part.new.work c.args.reader.now c.in_err-fault.field-0.0 c.args.piece.now behind _ _
+    (ReadsSome-piece g.W.Intake.stands g.W.Intake.halted c.args.work.now c.loop-rest.work c.take_part.new.work c.args.reader.now c.loop-rest.reader c.in_err-fault.field-0.0
     (Some c.args.piece.now) (Some c.loop-rest.rest.now) (Some behind) _ _ _ part c.loop-rest.invariant.reads read c.in_err-fault.ensures.err))
 
 pub returns-in-Some-clause-ok : goal.returns-in-Some-clause-ok
@@ -48,8 +48,8 @@ returns-in-Some-clause-ok g c =
     let part = c.split_at.result.0.now in
     let behind = c.split_at.result.1.now in
     let read = Consumes-part c.loop-rest.rest.now part behind c.min.result c.split_at.ensures.front c.split_at.ensures.back in
-    Goes-stopped g.W.Work.stands c.args.work.now c.take_part.new.work c.args.reader.now c.take_part.new.reader c.args.piece.now behind _ _ (Passed c.in-Some.fault)
-    (Reads-piece g.W.Work.stands c.args.work.now c.loop-rest.work c.take_part.new.work c.args.reader.now c.loop-rest.reader c.take_part.new.reader
+    Goes-stopped g.W.Intake.stands c.args.work.now c.take_part.new.work c.args.reader.now c.take_part.new.reader c.args.piece.now behind _ _ (Passed c.in-Some.fault)
+    (Reads-piece g.W.Intake.stands c.args.work.now c.loop-rest.work c.take_part.new.work c.args.reader.now c.loop-rest.reader c.take_part.new.reader
     (Some c.args.piece.now) (Some c.loop-rest.rest.now) (Some behind) _ _ _ part c.loop-rest.invariant.reads read c.in_ok-fault.ensures.read.state c.in_ok-fault.ensures.ok)
     (c.in_ok-fault.ensures.read.refusal ∙ ap (option_map Passed) c.in-Some.is)
 
@@ -70,7 +70,7 @@ loop-rest-preserved g c =
     let read = Consumes-part c.loop-rest.rest.now part behind c.min.result c.split_at.ensures.front c.split_at.ensures.back in
     let took = subst (HasTaken c.loop-rest.reader c.take_part.new.reader part) c.in_default.is c.in_ok-fault.ensures.read in
     record {
-      reads = Reads-piece g.W.Work.stands c.args.work.now c.loop-rest.work c.take_part.new.work c.args.reader.now c.loop-rest.reader c.take_part.new.reader
+      reads = Reads-piece g.W.Intake.stands c.args.work.now c.loop-rest.work c.take_part.new.work c.args.reader.now c.loop-rest.reader c.take_part.new.reader
           (Some c.args.piece.now) (Some c.loop-rest.rest.now) (Some behind) _ _ _ part c.loop-rest.invariant.reads read took.state c.in_ok-fault.ensures.ok;
       going = took.refusal;
       used = c.in_ok-fault.ensures.used;

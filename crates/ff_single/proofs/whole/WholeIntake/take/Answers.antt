@@ -2,7 +2,7 @@
 use Rattle.std.proofs.Common.{[], ◌∷◌, ◌++◌, ap, ◌∙◌}
 use Rattle.std.proofs.lemmas.Result.{err_from_is_err_and}
 use Rattle.ff_single.proofs.Wholes.{Goes-pushed, Halts-unpushed}
-use Rattle.ff_single.proofs.whole.WholeWork.take.Goals as goal
+use Rattle.ff_single.proofs.whole.WholeIntake.take.Goals as goal
 
 pub returns-in_err-push-clause-err : goal.returns-in_err-push-clause-err
 returns-in_err-push-clause-err g c =

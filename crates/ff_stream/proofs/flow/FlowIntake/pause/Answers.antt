@@ -2,7 +2,7 @@
 use Rattle.std.proofs.lemmas.Result.{err_from_is_err_and}
 use Rattle.ff_stream.specs.declared.fault.Halt.TheVariants.{Write}
 use Rattle.ff_stream.proofs.Flowings.{Halts-paused}
-use Rattle.ff_stream.proofs.flow.FlowWork.pause.Goals as goal
+use Rattle.ff_stream.proofs.flow.FlowIntake.pause.Goals as goal
 
 pub returns-in_err-write-clause-err : goal.returns-in_err-write-clause-err
 returns-in_err-write-clause-err g c =

@@ -3,7 +3,7 @@ use Rattle.std.proofs.Common.{refl}
 use Rattle.std.proofs.lemmas.Result.{err_from_is_err_and}
 use Rattle.ff_stream.specs.declared.fault.Halt.TheVariants.{Write}
 use Rattle.ff_stream.proofs.Flowings.{Goes-handed, Halts-handed, Halts-starved}
-use Rattle.ff_stream.proofs.flow.FlowWork.take.Goals as goal
+use Rattle.ff_stream.proofs.flow.FlowIntake.take.Goals as goal
 
 pub returns-in_err-hand-clause-err : goal.returns-in_err-hand-clause-err
 returns-in_err-hand-clause-err g c =
