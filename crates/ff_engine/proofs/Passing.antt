@@ -1,17 +1,11 @@
 -- What units passed on, once the ends of their rings are settled.
 use Rattle.std.proofs.Common.{◌≡◌, List, [], ◌∷◌, ◌++◌, refl, sym, ◌∙◌, ap, subst, append_assoc}
 use Rattle.ff_node.specs.Runs.{Message}
-use Rattle.ff_unit.specs.Units.{Doing, Ran}
+use Rattle.ff_unit.specs.Units.{Doing}
 use Rattle.ff_steps.specs.Chains.{Passes, Chained}
 use Rattle.ff_engine.specs.Lines.{IsSettled}
 
 module _ {U : Type 0} (d : Doing U) where
-  -- the unit took what was got of the ring before it, and there and held is what is left
-  pub Passes-settled : (before : List Message) (got there held : List Message) (u : U) (behind : List Message)
-      → got ++ there ++ held ≡ before → Ran d u (got ∷ []) (behind ∷ []) → Passes d before u behind
-  Passes-settled before got there held u behind law ran =
-      record { got = got; left = there ++ held; splits = sym law ∙ append_assoc got there held; ran = ran }
-
   -- one unit more, behind the others
   pub Chained-push : (before : List Message) (us : List U) (mid : List Message) (u : U) (behind : List Message)
       → Chained d before us mid → Passes d mid u behind → Chained d before (us ++ u ∷ []) behind

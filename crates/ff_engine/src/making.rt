@@ -12,8 +12,8 @@ use std::alloc::Global;
 use std::sync::Arc;
 use std::thread::Parker;
 
-/// Jobs of these units one behind the other, over rings of this capacity, with the ends before the first and behind the
-/// last. `own` is the parker of the thread that has these ends.
+/// Jobs of these units one behind the other, over rings of this capacity, with the ends before the
+/// first and behind the last. `own` is the parker of the thread that has these ends.
 pub(crate) fn make_line<U: Unit, R: Clone + Drop>(
     alloc: Global,
     units: Vec<U>,
@@ -44,7 +44,8 @@ pub(crate) fn make_line<U: Unit, R: Clone + Drop>(
     Ok((first, jobs, last))
 }
 
-// The parker of the thread behind some jobs: that of one job more, or behind the last job the calling thread's own.
+// The parker of the thread behind some jobs: that of one job more, or behind the last job that of
+// the calling thread.
 fn bell_of(
     alloc: Global,
     last: bool,
@@ -57,8 +58,8 @@ fn bell_of(
     }
 }
 
-// A job that reads this ring, and the reading end of the ring that it writes. `bell` is the parker of its thread, and
-// `next` that of the thread behind it.
+// A job that reads this ring, and the reading end of the ring that it writes. `bell` is the parker of
+// its thread, and `next` that of the thread behind it.
 fn job_behind<U: Unit, R: Clone + Drop>(
     alloc: Global,
     unit: U,

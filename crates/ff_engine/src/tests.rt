@@ -1,4 +1,5 @@
-// What no clause says: that memory is there, that jobs come to their end, and that the calls work together.
+// What no clause says: that memory is there, that jobs come to their end, and that the calls work
+// together.
 ghost use Rattle.std.specs.Prelude.{◌≡◌, All, IfOk};
 ghost use Rattle.ff_rec.specs.Streams.{IsOpen};
 ghost use Rattle.ff_ring.specs.Ends.{put_of, written_ring};
