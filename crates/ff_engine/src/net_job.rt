@@ -17,8 +17,8 @@ use std::alloc::Global;
 use std::marker::Model;
 use std::sync::Wait;
 
-/// A unit with its ports, which is run step by step until it has ended. Where it finds nothing to do it tries again
-/// after a pause, which the other ends of its rings cut short.
+/// A unit with its ports, which is run step by step until it has ended. Where it finds nothing to do
+/// it tries again after a pause, which the other ends of its rings cut short.
 #[derive(Drop)]
 pub struct NetJob<U: Unit, R> {
     unit: U,
@@ -93,8 +93,8 @@ impl<U: Unit, R: Drop> NetJob<U, R> {
         self.unit.abort(&mut self.ports);
     }
 
-    /// Takes the job apart once its thread has ended, with the writing end of the ring that it read. The unit took the
-    /// first of what was put there; its own out is handed on.
+    /// Takes the job apart once its thread has ended, beside the writing end of the ring that it read:
+    /// the unit took the first of what was put there. Its own out is handed on.
     pub(crate) fn settle(self, before: RingOut<Record>) -> (U, RingOut<Record>)
         requires reads { self.reads ≡ written_ring before ∷ [] }
         requires writes { (out : RingName) × (self.writes ≡ out ∷ []) }

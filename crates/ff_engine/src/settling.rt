@@ -8,7 +8,8 @@ use ff_rec::Record;
 use ff_ring::{RingIn, RingOut, settle};
 use ff_unit::Unit;
 
-/// Settles each ring, from the first to the last, and takes the jobs apart: their units stand in `units` then.
+/// Settles each ring, from the first to the last, and takes the jobs apart: their units stand in
+/// `units` then.
 pub(crate) fn settle_line<U: Unit, R: Drop>(
     first: RingOut<Record>,
     jobs: Vec<NetJob<U, R>>,
