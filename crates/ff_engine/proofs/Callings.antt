@@ -60,10 +60,11 @@ Breaks-more c d e t t' broke more = record {
   written = broke.written;
   taken = broke.taken;
   shows = λ front at.
-      let rest = broke.shows front at in
-      (rest.0 ++ text (items more.more),
-      ap (λ ms. text (items ms)) more.is ∙ ap text (items-append d.got more.more) ∙ flat_map-append line_of (items d.got) (items more.more)
-      ∙ ap (λ l. l ++ text (items more.more)) rest.1 ∙ append_assoc (front ++ broke.written) rest.0 (text (items more.more)));
+      let rest = broke.shows front at in (
+        rest.0 ++ text (items more.more),
+        ap (λ ms. text (items ms)) more.is ∙ ap text (items-append d.got more.more) ∙ flat_map-append line_of (items d.got) (items more.more)
+            ∙ ap (λ l. l ++ text (items more.more)) rest.1 ∙ append_assoc (front ++ broke.written) rest.0 (text (items more.more)),
+      );
 }
 
 -- the text of one message more
@@ -87,10 +88,12 @@ pub Breaks-record : (c d e : CallerState) (r : Rec) (held : List ℕ) (t t' : Op
 Breaks-record c d e r held t t' took printed kept writes = record {
   written = writes.put;
   taken = writes.taken;
-  shows = λ front at. (writes.back,
-      ap (λ ms. text (items ms)) (kept ∙ took) ∙ text-more c.got (Item r) ∙ ap (λ l. l ++ text (r ∷ [])) at
-      ∙ append_assoc front c.text (text (r ∷ [])) ∙ ap (λ l. front ++ (c.text ++ l)) (append-nil (line_of r))
-      ∙ ap (λ l. front ++ l) (sym printed ∙ writes.splits) ∙ sym (append_assoc front writes.put writes.back));
+  shows = λ front at. (
+    writes.back,
+    ap (λ ms. text (items ms)) (kept ∙ took) ∙ text-more c.got (Item r) ∙ ap (λ l. l ++ text (r ∷ [])) at
+        ∙ append_assoc front c.text (text (r ∷ [])) ∙ ap (λ l. front ++ (c.text ++ l)) (append-nil (line_of r))
+        ∙ ap (λ l. front ++ l) (sym printed ∙ writes.splits) ∙ sym (append_assoc front writes.put writes.back),
+  );
 }
 
 -- a record came that can't be held
@@ -98,9 +101,11 @@ pub Breaks-starved : (c e : CallerState) (r : Rec) (t : Option (List ℕ)) → e
 Breaks-starved c e r t took = record {
   written = [];
   taken = Appends-nil t;
-  shows = λ front at. (c.text ++ text (r ∷ []),
-      ap (λ ms. text (items ms)) took ∙ text-more c.got (Item r) ∙ ap (λ l. l ++ text (r ∷ [])) at
-      ∙ append_assoc front c.text (text (r ∷ [])) ∙ ap (λ l. l ++ (c.text ++ text (r ∷ []))) (sym (append-nil front)));
+  shows = λ front at. (
+    c.text ++ text (r ∷ []),
+    ap (λ ms. text (items ms)) took ∙ text-more c.got (Item r) ∙ ap (λ l. l ++ text (r ∷ [])) at
+        ∙ append_assoc front c.text (text (r ∷ [])) ∙ ap (λ l. l ++ (c.text ++ text (r ∷ []))) (sym (append-nil front)),
+  );
 }
 
 -- a message came that carries nothing

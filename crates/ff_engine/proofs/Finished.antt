@@ -1,5 +1,5 @@
 -- Jobs of a line that ran until their units had ended.
-use Rattle.std.proofs.Common.{◌≡◌, true, List, [], ◌∷◌, map, refl, ◌∙◌, ap}
+use Rattle.std.proofs.Common.{◌≡◌, suc, true, length, List, [], ◌∷◌, map, refl, ◌∙◌, ap}
 use Rattle.std.specs.List.{All, AllZip}
 use Rattle.std.proofs.lemmas.List.Elements.{All-nil, All-cons}
 use Rattle.ff_ring.specs.Names.{RingName}
@@ -46,3 +46,10 @@ module _ {U : Type 0} (d : Doing U) where
 
     pub told-finished : map d.told (map (λ j. j.unit) finished) ≡ map d.told (map (λ j. j.unit) started)
     told-finished = told_of d.told (λ before after worked. worked.told) started finished each
+
+  -- they are as many
+  pub length-finished : (started finished : List (JobState U)) → AllZip (HasWorked d) started finished → length finished ≡ length started
+  length-finished [] [] each = refl
+  length-finished [] (t ∷ ts) each = absurd each
+  length-finished (s ∷ ss) [] each = absurd each
+  length-finished (s ∷ ss) (t ∷ ts) each = ap (λ n. suc n) (length-finished ss ts each.1)

@@ -5,3 +5,5 @@ pub mod Stages
 pub mod Callings
 pub mod JobChains
 pub mod LineRuns
+pub mod LineEnds
+pub mod NetStarts

@@ -5,7 +5,7 @@ use Rattle.std.proofs.lemmas.Grind.{flat_map-append}
 use Rattle.std.proofs.lemmas.List.{length-map, map-append}
 use Rattle.std.proofs.lemmas.List.Recursion.{is_sum_by}
 use Rattle.std.specs.List.{AllByRecursion, AllZip, list_all}
-use Rattle.std.specs.Prelude.{Option, None, ◌⊎◌}
+use Rattle.std.specs.Prelude.{Option, None, ◌⊎◌, if◌then◌else◌}
 use Rattle.std.specs.Io.KnownBytes.{Appends}
 use Rattle.ff_rec.specs.Counts.{counted}
 use Rattle.ff_rec.specs.Lines.{Rec, line_of, text}
@@ -39,9 +39,9 @@ use Rattle.ff_stream.specs.Works.{HasEnded as RunEnded, IsOpen as IsOpenRun}
 use Rattle.ff_stream.specs.declared.ending.Report.{Report}
 use Rattle.ff_stream.specs.declared.fault.Halt.{Halt}
 use Rattle.ff_unit.specs.MessageLaws.{IsOpen-carried, unaborted-append, unaborted-closed, unaborted-cut}
-use Rattle.ff_unit.specs.Stage.{StageState, opened_stage, opening_stage}
+use Rattle.ff_unit.specs.Stage.{StageState, opened_stage, opening_stage, started}
 use Rattle.ff_unit.specs.StageUnit.{stage_does}
-use Rattle.ff_unit.specs.Units.{IsUnit, HasRejects, end_of}
+use Rattle.ff_unit.specs.Units.{Doing, IsUnit, HasRejects, end_of}
 use Rattle.ff_engine.specs.Crews.{IsJoined}
 use Rattle.ff_engine.specs.Jobs.{JobState, HasWorked, handled}
 use Rattle.ff_engine.specs.Lines.{JobsChained}
@@ -68,7 +68,7 @@ GoesOn-closed before xs is = record {
 }
 
 -- a unit that ends by Eos
-ends-parts : {N : Type 0} (done : Bool) (fin : Option End) → ends_by_eos (if done then fin else None) ≡ true → (done ≡ true) × (fin ≡ Some Eos)
+ends-parts : (done : Bool) (fin : Option End) → ends_by_eos (if done then fin else None) ≡ true → (done ≡ true) × (fin ≡ Some Eos)
 ends-parts true (Some Eos) is = (refl, refl)
 ends-parts true (Some Abort) is = absurd (both_ways false refl is)
 ends-parts true (Some Memory) is = absurd (both_ways false refl is)
@@ -80,7 +80,7 @@ module _ {S : Type 0} (c : Behaviour S) where
   AllEnded [] all = tt
   AllEnded (u ∷ us) all =
       let parts = and_parts (ends_by_eos (end_of (stage_does c) u)) (list_all (λ v. ends_by_eos (end_of (stage_does c) v)) us) all in
-      (ends-parts {N = S} u.done u.fin parts.0, AllEnded us parts.1)
+      (ends-parts u.done u.fin parts.0, AllEnded us parts.1)
 
   -- rejects that aren't kept
   none-chain : (facts : IsUnit (stage_does c)) (before : List Message) (us : List (StageState S)) (os : List S) (behind : List Message) → RunNodes c false us os
@@ -95,24 +95,24 @@ module _ {S : Type 0} (c : Behaviour S) where
   opened-again : KeepsKind c → (keep : Bool) (os : List S) → map (opening_stage c) (map (λ o. opened_stage c o keep) os) ≡ map (λ o. opened_stage c o keep) os
   opened-again kind keep [] = refl
   opened-again kind keep (o ∷ os) =
-      ap₂ (λ u us. u ∷ us) (ap (λ n. record { node = n; held = []; mode = _; fin = None; done = false; told = false; rejects = 0; keeps = keep; kept = []; taken = [] }) (kind.opening_of_opening o))
+      ap₂ (λ u us. u ∷ us) (ap (λ n. started n keep) (kind.opening_of_opening o))
       (opened-again kind keep os)
 
   -- no reject was taken out while the jobs ran
-  untaken : (keep : Bool) (os : List S) (started jobs : List (JobState (StageState S))) → map (λ job. job.unit) started ≡ map (λ o. opened_stage c o keep) os
-      → AllZip (HasWorked (stage_does c)) started jobs → flat_map (λ u. u.taken) (map (λ job. job.unit) jobs) ≡ []
+  untaken : (keep : Bool) (os : List S) (begun jobs : List (JobState (StageState S))) → map (λ job. job.unit) begun ≡ map (λ o. opened_stage c o keep) os
+      → AllZip (HasWorked (stage_does c)) begun jobs → flat_map (λ u. u.taken) (map (λ job. job.unit) jobs) ≡ []
   untaken keep os [] [] are all = refl
   untaken keep os [] (job ∷ jobs) are all = absurd all
-  untaken keep os (was ∷ started) [] are all = absurd all
-  untaken keep [] (was ∷ started) (job ∷ jobs) are all = absurd (cons≢nil are)
-  untaken keep (o ∷ os) (was ∷ started) (job ∷ jobs) are all =
-      ap₂ (λ l m. l ++ m) (all.0.taken ∙ ap (λ u. u.taken) (head-same are)) (untaken keep os started jobs (tail-same are) all.1)
+  untaken keep os (was ∷ begun) [] are all = absurd all
+  untaken keep [] (was ∷ begun) (job ∷ jobs) are all = absurd (cons≢nil are)
+  untaken keep (o ∷ os) (was ∷ begun) (job ∷ jobs) are all =
+      ap₂ (λ l m. l ++ m) (all.0.taken ∙ ap (λ u. u.taken) (head-same are)) (untaken keep os begun jobs (tail-same are) all.1)
 
 module _ {N : Type 0} (b : Behaviour N) (kind : KeepsKind (comb_node b)) (facts : IsUnit (stage_does (comb_node b))) where
   abbrev c : Behaviour (List (Part N))
   c = comb_node b
 
-  abbrev d : _
+  abbrev d : Doing (UnitOf N)
   d = stage_does c
 
   -- the units of a network are stages of combs
@@ -120,20 +120,20 @@ module _ {N : Type 0} (b : Behaviour N) (kind : KeepsKind (comb_node b)) (facts 
   opened_units-combs keep [] = refl
   opened_units-combs keep (g ∷ groups) = ap (λ us. opened_stage c (running (map b.opening g)) keep ∷ us) (opened_units-combs keep groups)
 
-  module _ (j : Job N) (started : List (JobState (UnitOf N))) (made : AreJobsOf b j started) (before : List Message) (us : List (UnitOf N)) (taken : List Message)
-      (worked worked' : ℕ) (joined : IsJoined d before started us taken worked worked') where
+  module _ (j : Job N) (was : List (JobState (UnitOf N))) (made : AreJobsOf b j was) (before : List Message) (us : List (UnitOf N)) (taken : List Message)
+      (worked worked' : ℕ) (joined : IsJoined d before was us taken worked worked') where
     abbrev os : List (List (Part N))
     os = combs_of b (node_groups j.net)
 
-    are : map (λ job. job.unit) started ≡ map (λ o. opened_stage c o j.keep) os
+    are : map (λ job. job.unit) was ≡ map (λ o. opened_stage c o j.keep) os
     are = made.units_are ∙ opened_units-combs j.keep (node_groups j.net)
 
     -- the units run the combs of the network
     runs : RunNodes c j.keep (map (λ job. job.unit) joined.finished) os
-    runs = openings-finished d started joined.finished joined.each ∙ ap (λ vs. map (opening_stage c) vs) are ∙ opened-again c kind j.keep os
+    runs = openings-finished d was joined.finished joined.each ∙ ap (λ vs. map (opening_stage c) vs) are ∙ opened-again c kind j.keep os
 
     chain : Chained d before (map (λ job. job.unit) joined.finished) joined.settled.behind
-    chain = Chained-jobs d before started joined.finished joined.settled.behind joined.each joined.settled.chained
+    chain = Chained-jobs d before was joined.finished joined.settled.behind joined.each joined.settled.chained
 
     ended : AllByRecursion HasEnded us → AllByRecursion HasEnded (map (λ job. job.unit) joined.finished)
     ended all = subst (λ vs. AllByRecursion HasEnded vs) joined.units_are all
@@ -196,7 +196,7 @@ module _ {N : Type 0} (b : Behaviour N) (kind : KeepsKind (comb_node b)) (facts 
       kept-joined keep =
           let vs = map (λ job. job.unit) joined.finished in
           Same-trans (Same-sym (kept-chain c j.keep facts before vs os joined.settled.behind runs chain (ended all) keep xs put))
-          (Same-≡ _ _ (ap (λ l. l ++ flat_map (λ u. u.kept) vs) (untaken c j.keep os started joined.finished are joined.each)
+          (Same-≡ _ _ (ap (λ l. l ++ flat_map (λ u. u.kept) vs) (untaken c j.keep os was joined.finished are joined.each)
           ∙ ap (λ ws. flat_map (λ u. u.kept) ws) (sym joined.units_are)))
 
       none-joined : j.keep ≡ false → flat_map (λ u. u.kept) us ≡ []
@@ -235,7 +235,10 @@ module _ {N : Type 0} (b : Behaviour N) (kind : KeepsKind (comb_node b)) (facts 
           let many : length vs ≡ length os = sym (length-map vs (opening_stage c)) ∙ ap length runs ∙ length-map os (λ o. opened_stage c o j.keep) in
           let groups : length os ≡ length (node_groups j.net) = length-map (node_groups j.net) (λ g. running (map b.opening g)) in
           let some : 1 ≤ length vs = omega (arith, many, groups, made.some) in
-          let took = took-chain c j.keep facts before vs os joined.settled.behind runs chain (ended all) xs put some in
+          let took : length vs + length xs ≤ sum_by (λ (ms : List Message). length ms)
+          (gots_along d before vs joined.settled.behind (Chained-jobs d before was joined.finished joined.settled.behind joined.each joined.settled.chained)) =
+          took-chain c j.keep facts before vs os joined.settled.behind runs
+          (Chained-jobs d before was joined.finished joined.settled.behind joined.each joined.settled.chained) (ended all) xs put some in
           let rose : RoseBy (sum_by handled joined.finished) worked worked' =
           subst (λ n. RoseBy (sum_by handled joined.finished) worked n) (sym joined.work) (RoseBy-worked_after handled worked joined.finished) in
-          omega (arith, many, groups, made.number, took, rose, handled-jobs d before started joined.finished joined.settled.behind joined.each joined.settled.chained)
+          omega (arith, many, groups, made.number, took, rose, handled-jobs d before was joined.finished joined.settled.behind joined.each joined.settled.chained)

@@ -5,5 +5,7 @@ pub mod Crews
 pub mod Callers
 pub mod Seen
 pub mod Networks
+pub mod Starts
+pub mod Conclusions
 pub mod Faults
 pub mod Runs

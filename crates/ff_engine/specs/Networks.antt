@@ -14,6 +14,7 @@ use Rattle.ff_stream.specs.Jobs.{Job}
 use Rattle.ff_unit.specs.Stage.{StageState}
 use Rattle.ff_engine.specs.Callers.{CallerState, Shows}
 use Rattle.ff_engine.specs.Jobs.{JobState}
+use Rattle.ff_engine.specs.Lines.{Linked}
 
 -- a comb of each of these groups of nodes, before its first record
 abbrev pub combs_of : {N : Type 0} → Behaviour N → List (List N) → List (List (Part N))
@@ -33,12 +34,14 @@ pub record AreJobsOf {N : Type 0} (b : Behaviour N) (j : Job N) (jobs : List (Jo
 -- the records were put on the first ring, and these bytes were written of what came
 pub record HasFed {N : Type 0} (b : Behaviour N) (j : Job N) (c : CallerState) (jobs : List (JobState (UnitOf N))) (xs : List Rec) (front : List ℕ) : Type 0 where
   pub put : c.put ≡ carried xs
+  pub linked : Linked c.writes jobs c.reads
   pub shows : Shows front c
   pub made : AreJobsOf b j jobs
 
 -- the same where writing broke off: of the text of what came these bytes were written
 pub record HasStopped {N : Type 0} (b : Behaviour N) (j : Job N) (c : CallerState) (jobs : List (JobState (UnitOf N))) (xs : List Rec) (front : List ℕ) : Type 0 where
   pub put : c.put ≡ carried xs
+  pub linked : Linked c.writes jobs c.reads
   pub back : List ℕ
   pub splits : text (items c.got) ≡ front ++ back
   pub made : AreJobsOf b j jobs

@@ -39,8 +39,12 @@ impl Caller {
         pause: Pause,
     ) -> Caller
         ensures { caller_of result ≡ record {
-          put = put_of first; got = got_of last; text = []; end = None;
-          writes = written_ring first; reads = read_ring last;
+          put = put_of first;
+          got = got_of last;
+          text = [];
+          end = None;
+          writes = written_ring first;
+          reads = read_ring last;
         } }
     {
         Caller {

@@ -8,11 +8,14 @@ ghost use Rattle.ff_stream.specs.Jobs.{Job};
 ghost use Rattle.ff_stream.specs.Works.{Ends, IsOpen as IsOpenRun, halt_count};
 ghost use Rattle.ff_stream.specs.declared.fault.Halt.{Halt};
 ghost use Rattle.ff_engine.specs.Callers.{Moves, Breaks, SameRings, EndsOnce};
+ghost use Rattle.ff_engine.specs.Conclusions.{Concludes};
+ghost use Rattle.ff_engine.specs.Lines.{Linked};
 ghost use Rattle.ff_engine.specs.Networks.{HasFed, HasStopped, JoinsOnly, WorkedThrough};
 ghost use Rattle.ff_engine.specs.Seen.{caller_of};
 
 use crate::NetJob;
 use crate::caller::Caller;
+use crate::laws::units_keep_laws;
 use crate::line::Line;
 use crate::report::{all_ended_by_eos, report_of};
 use ff_io::Sink;
@@ -21,7 +24,7 @@ use ff_port::End;
 use ff_rec::Msg;
 use ff_spawn::Spawner;
 use ff_stream::{Halt, Report, RunFault};
-use ff_unit::Stage;
+use ff_unit::{Stage, Unit};
 use std::alloc::Global;
 use std::sync::Wait;
 
@@ -33,6 +36,7 @@ impl<N: Node + Send + 'static, R: Wait + Drop + Send + 'static> Line<N, R> {
         by: &mut S,
         sink: &mut O,
     ) -> Result<Report, RunFault>
+        requires { Linked (caller_of self.caller).writes self.crew (caller_of self.caller).reads }
         ensures ends { (j : Job N) (xs : List Rec) (front : List ℕ)
             → HasFed N.does j (caller_of self.caller) self.crew xs front
             → Ends j xs front (O.taken sink.old) (O.taken sink.new) result }
@@ -43,11 +47,8 @@ impl<N: Node + Send + 'static, R: Wait + Drop + Send + 'static> Line<N, R> {
         ensures joins { JoinsOnly (S.refused by.old) (S.refused by.new) (S.starts by.old) (S.starts by.new)
             (S.worked by.old) (S.worked by.new) }
     {
-        let Line {
-            caller,
-            crew,
-            rt,
-        } = self;
+        units_keep_laws::<N>();
+        let Line { caller, crew, rt } = self;
         let mut caller = caller;
         let shown = close(&mut caller, &rt, sink);
         caller.hand_over(&rt);
@@ -55,32 +56,43 @@ impl<N: Node + Send + 'static, R: Wait + Drop + Send + 'static> Line<N, R> {
         let (first, last) = caller.into_ends();
         let mut last = last;
         let mut units = crew.join(first, &mut last, by);
-        shown?;
-        if end != Some(End::Eos) || !all_ended_by_eos(&units) {
-            return Err(RunFault::NoMemory);
-        }
-        Ok(report_of(alloc, &mut units)?)
+        conclude(alloc, shown, end, &mut units)
     }
 
     /// Tells the units that the stream is cut off, and joins their threads. What was written begins an answer, whatever
     /// records follow.
     pub(crate) fn give_up<S: Spawner<NetJob<Stage<Comb<N>>, R>>>(self, by: &mut S)
+        requires { Linked (caller_of self.caller).writes self.crew (caller_of self.caller).reads }
         ensures opens { (j : Job N) (halt : Halt) (xs : List Rec) (front : List ℕ)
             → HasStopped N.does j (caller_of self.caller) self.crew xs front
             → IsOpenRun j halt xs front }
         ensures joins { JoinsOnly (S.refused by.old) (S.refused by.new) (S.starts by.old) (S.starts by.new)
             (S.worked by.old) (S.worked by.new) }
     {
-        let Line {
-            caller,
-            crew,
-            rt,
-        } = self;
+        units_keep_laws::<N>();
+        let Line { caller, crew, rt } = self;
         let mut caller = caller;
         caller.stop(&rt);
         let (first, last) = caller.into_ends();
         let mut last = last;
         crew.join(first, &mut last, by);
+    }
+}
+
+// The answer of a run whose threads were joined, by whether all that came was shown, and by how the stream and the units
+// ended.
+fn conclude<U: Unit>(
+    alloc: Global,
+    shown: Result<(), Halt>,
+    end: Option<End>,
+    units: &mut Vec<U>,
+) -> Result<Report, RunFault>
+    ensures { Concludes U.does shown end units.old.items result }
+{
+    match (shown, end) {
+        (Err(halt), _) => Err(halt.into()),
+        (Ok(()), Some(End::Eos)) if all_ended_by_eos(units) => Ok(report_of(alloc, units)?),
+        _ => Err(RunFault::NoMemory),
     }
 }
 
@@ -96,13 +108,17 @@ fn close<R: Wait, O: Sink>(caller: &mut Caller, rt: &R, sink: &mut O) -> Result<
     ensures rings { SameRings (caller_of caller.old) (caller_of caller.new) }
     ensures counts { O.faults sink.new ≡ halt_count (O.faults sink.old) result }
 {
-    if let Err(halt) = caller.feed(rt, Msg::Eos, sink) {
-        caller.stop(rt);
-        return Err(halt);
+    match caller.feed(rt, Msg::Eos, sink) {
+        Ok(()) => match caller.drain(rt, sink) {
+            Ok(()) => Ok(()),
+            Err(halt) => {
+                caller.drop_rest(rt);
+                Err(halt)
+            }
+        },
+        Err(halt) => {
+            caller.stop(rt);
+            Err(halt)
+        }
     }
-    if let Err(halt) = caller.drain(rt, sink) {
-        caller.drop_rest(rt);
-        return Err(halt);
-    }
-    Ok(())
 }

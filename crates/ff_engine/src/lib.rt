@@ -5,12 +5,16 @@ mod caller;
 mod crew;
 mod fault;
 mod finishing;
+mod laws;
 mod line;
 mod making;
 mod net_job;
+mod prepared;
 mod report;
 mod run;
+mod running;
 mod settling;
+mod starting;
 mod stepping;
 
 pub use fault::NetFault;

@@ -1,6 +1,6 @@
 // How a line of threads takes the records of a stream.
-ghost use Rattle.ff_rec.specs.Streams.{IsOpen};
-ghost use Rattle.ff_engine.specs.Lines.{Linked};
+ghost use Rattle.std.specs.Prelude.{◌≡◌};
+ghost use Rattle.ff_rec.specs.Streams.{carried, items};
 ghost use Rattle.ff_engine.specs.Seen.{caller_of};
 
 use crate::caller::Caller;
@@ -19,8 +19,8 @@ pub(crate) struct Line<N: Node, R: Wait + Drop> {
     pub(crate) crew: Crew<Stage<Comb<N>>, R>,
     // The right to wait.
     pub(crate) rt: R,
-    ghost open: { IsOpen (caller_of caller).put },
-    ghost linked: { Linked (caller_of caller).writes crew (caller_of caller).reads },
+    // Records alone were put so far.
+    ghost open: { (caller_of caller).put ≡ carried (items (caller_of caller).put) },
 }
 
 impl<N: Node, R: Wait + Drop> Intake<N> for Line<N, R> {

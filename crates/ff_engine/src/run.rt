@@ -1,5 +1,5 @@
 // A network by threads.
-ghost use Rattle.std.specs.Prelude.{◌≡◌, ◌≤◌, ◌+◌, ℕ, List, false, length, IfOk, OnOk, not, All, vec_len, vec_capacity};
+ghost use Rattle.std.specs.Prelude.{◌≡◌, ◌≤◌, ◌+◌, ℕ, List, false, length, IfOk, OnOk, not};
 ghost use Rattle.ff_rec.specs.Lines.{Rec};
 ghost use Rattle.ff_net.specs.Counts.{units};
 ghost use Rattle.ff_net.specs.Forms.{has_copies};
@@ -8,22 +8,20 @@ ghost use Rattle.ff_spawn.specs.Counts.{RoseBy};
 ghost use Rattle.ff_stream.specs.Endings.{Told};
 ghost use Rattle.ff_stream.specs.Jobs.{job};
 ghost use Rattle.ff_stream.specs.Streams.{streams};
-ghost use Rattle.ff_engine.specs.Jobs.{IsFresh};
 ghost use Rattle.ff_engine.specs.Runs.{NetRan, CountsNetInput, refused_count, net_output_count};
 
-use crate::caller::Caller;
-use crate::crew::Crew;
+use crate::laws::units_keep_laws;
 use crate::line::Line;
-use crate::making::{make_line, new_bell};
+use crate::running::run_line;
+use crate::starting::{prepare, start};
 use crate::{NetFault, NetJob};
 use ff_io::{Sink, Source};
 use ff_net::Checked;
+use ff_net::laws::checked_networks_are_good;
 use ff_node::{Comb, Node};
-use ff_ring::Pause;
-use ff_spawn::{RunningJobs, Spawner};
-use ff_steps::make_units;
-use ff_stream::{Ending, take_stream};
-use ff_unit::{Stage, Unit};
+use ff_spawn::Spawner;
+use ff_stream::{Ending, RunFault};
+use ff_unit::Stage;
 use std::alloc::Global;
 use std::sync::Wait;
 
@@ -68,50 +66,23 @@ pub fn run_net<
     ensures input_faults { CountsNetInput (I.faults source.old) (I.faults source.new) result }
     ensures output_faults { O.faults sink.new ≡ net_output_count (O.faults sink.old) result }
 {
-    let units = make_units(alloc, checked, keep)?;
-    let room = Vec::with_capacity(alloc, units.len())?;
-    let own = new_bell(alloc)?;
-    let (first, mut jobs, last) = make_line(alloc, units, cap as usize, rt, &own)?;
-    let waits = rt.clone()?;
-    let mut caller = Caller::new(alloc, first, last, Pause::new(own));
-    let mut running = RunningJobs::with_capacity(alloc, jobs.len())?;
-    if let Err(denial) = running.start_all(alloc, spawner, &mut jobs) {
-        break_up(&mut caller, rt, running, jobs, spawner);
-        return Err(denial.into());
-    }
-    let mut line = Line {
-        caller,
-        crew: Crew::new(running, jobs, room),
-        rt: waits,
+    checked_networks_are_good(checked);
+    units_keep_laws::<N>();
+    let Ok(prepared) = prepare(rt, alloc, checked, cap, keep) else {
+        return Err(NetFault::Run(RunFault::NoMemory));
     };
-    match take_stream(alloc, checked.version(), &mut line, source, sink) {
-        Ok(stop) => {
-            let report = line.finish(alloc, spawner, sink)?;
-            Ok(Ending { stop, report })
+    match start(rt, alloc, prepared, spawner) {
+        Ok((caller, crew, waits)) => {
+            let line = Line {
+                caller,
+                crew,
+                rt: waits,
+            };
+            match run_line(alloc, checked.version(), line, source, sink, spawner) {
+                Ok(ending) => Ok(ending),
+                Err(fault) => Err(NetFault::Run(fault)),
+            }
         }
-        Err(halt) => {
-            line.give_up(spawner);
-            Err(NetFault::Run(halt.into()))
-        }
+        Err(denial) => Err(denial.into()),
     }
-}
-
-// Ends the jobs of which not all could be started: those that were see an Abort from those that weren't.
-fn break_up<U: Unit + Send + 'static, R: Wait + Drop + Send + 'static, S: Spawner<NetJob<U, R>>>(
-    caller: &mut Caller,
-    rt: &R,
-    running: RunningJobs<NetJob<U, R>>,
-    jobs: Vec<NetJob<U, R>>,
-    spawner: &mut S,
-)
-    requires fresh { All (λ j. IsFresh U.does j) jobs.items }
-    requires room { vec_len jobs + length running.jobs ≤ vec_capacity jobs }
-    ensures refused { S.refused spawner.new ≡ S.refused spawner.old }
-{
-    let mut jobs = jobs;
-    for job in jobs.iter_mut() {
-        job.abort();
-    }
-    caller.drop_rest(rt);
-    running.finish_all(spawner, &mut jobs);
 }

@@ -63,6 +63,7 @@ impl Caller {
         ensures rings { SameRings (caller_of self.old) (caller_of self.new) }
         ensures counts { O.faults sink.new ≡ halt_count (O.faults sink.old) result }
     {
+        self.pause.reset();
         let mut quiet = 0;
         for _ in rt.forever() {
             if quiet >= QUIET_PARKS || self.end.is_some() {

@@ -1,7 +1,7 @@
 // Nodes that wait for one another.
+use crossbeam_utils::atomic::AtomicCell;
 use ff_node::{Class, Next, Node, Sends};
 use ff_rec::{NoMemory, Record};
-use crossbeam_utils::atomic::AtomicCell;
 use std::hint;
 use std::sync::Arc;
 

@@ -77,8 +77,20 @@ fn compare<R: thread::Threads + Wait + Abort + Clone + Drop + Send + 'static>(
     let mut sink = MemSink::new(alloc, case.budget, Vec::new(alloc))?;
     let mut spawner = Threads::new(rt.clone()?);
     let cap = cap.clamp(1, 4096);
-    let answer = run_net(rt, alloc, net, cap, true, &mut source, &mut sink, &mut spawner);
-    assert_eq!(rt; summary(answer), (case.kind, case.rejected as u64, case.rejected));
+    let answer = run_net(
+        rt,
+        alloc,
+        net,
+        cap,
+        true,
+        &mut source,
+        &mut sink,
+        &mut spawner,
+    );
+    assert_eq!(rt;
+        summary(answer),
+        (case.kind, case.rejected as u64, case.rejected)
+    );
     assert_eq!(rt; sink.taken(), case.out);
     assert_eq!(rt; (spawner.refused(), spawner.starts()), (0, 4));
     Ok(())
@@ -92,14 +104,28 @@ fn runs_of_every_end(rt: HostRuntime) -> Result<(), Fail> {
     assert!(rt; runs(&net));
     for cap in CAPS {
         for (input, fails, budget, kind, out, rejected) in [
-            (b"1\n2\ta\n\n345".as_slice(), 0, 99, DONE, b"1\n\n345\n".as_slice(), 1),
+            (
+                b"1\n2\ta\n\n345".as_slice(),
+                0,
+                99,
+                DONE,
+                b"1\n\n345\n".as_slice(),
+                1,
+            ),
             (b"", 0, 99, DONE, b"", 0),
             (b"1\n2\n345", 1, 99, READ, b"", 0),
             (b"1\n2\n345", 4, 99, READ, b"1\n2\n", 0),
             (b"1\n22\na\tb\n3", 0, 0, WRITE, b"", 0),
             (b"1\n22\na\tb\n3", 0, 3, WRITE, b"1\n2", 0),
         ] {
-            let case = Case { input, fails, budget, kind, out, rejected };
+            let case = Case {
+                input,
+                fails,
+                budget,
+                kind,
+                out,
+                rejected,
+            };
             compare(&rt, alloc, &net, cap, case)?;
         }
     }
@@ -116,7 +142,16 @@ fn refused_starts(rt: HostRuntime) -> Result<(), Fail> {
         let mut sink = MemSink::new(alloc, 99, Vec::new(alloc))?;
         let inner = Threads::new(rt.clone()?);
         let mut spawner = RefuseAt::new(inner, Vec::from_array(alloc, [refused])?);
-        let answer = run_net(&rt, alloc, &net, 2, true, &mut source, &mut sink, &mut spawner);
+        let answer = run_net(
+            &rt,
+            alloc,
+            &net,
+            2,
+            true,
+            &mut source,
+            &mut sink,
+            &mut spawner,
+        );
         assert_eq!(rt; summary(answer), (Kind::Broken(NetFault::Refused), 0, 0));
         assert_eq!(rt; sink.taken(), b"".as_slice());
         let mut buf = [0; 4];
@@ -133,14 +168,34 @@ fn meet_line(rt: HostRuntime) -> Result<(), Fail> {
     let nodes = [Place::First, Place::Second];
     let mut parts = Vec::new(alloc);
     for place in nodes {
-        parts.push(Net::Leaf(Meets { place, flags: Arc::try_clone(&flags)? }))?;
+        parts.push(Net::Leaf(Meets {
+            place,
+            flags: Arc::try_clone(&flags)?,
+        }))?;
     }
     let net = checked(Net::Pipe(parts))?;
     let mut source = MemSource::new(Vec::from_slice(alloc, b"1\n2\n")?, 64, Vec::new(alloc));
     let mut sink = MemSink::new(alloc, 99, Vec::new(alloc))?;
     let mut spawner = Threads::new(rt.clone()?);
-    let answer = run_net(&rt, alloc, &net, 512, true, &mut source, &mut sink, &mut spawner);
-    assert!(rt; matches!(answer, Ok(Ending { stop: Stop::End, .. })));
+    let answer = run_net(
+        &rt,
+        alloc,
+        &net,
+        512,
+        true,
+        &mut source,
+        &mut sink,
+        &mut spawner,
+    );
+    assert!(rt;
+        matches!(
+            answer,
+            Ok(Ending {
+                stop: Stop::End,
+                ..
+            })
+        )
+    );
     assert_eq!(rt; sink.taken(), b"1\n2\n".as_slice());
     assert!(rt; flags.first_met.load());
     assert!(rt; flags.second_met.load());

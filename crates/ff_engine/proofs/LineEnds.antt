@@ -1,0 +1,201 @@
+-- How a line of threads takes records, and how it ends, in the words of a run.
+use Rattle.std.proofs.Common.{◌≡◌, ℕ, true, List, [], ◌∷◌, ◌++◌, Some, refl, sym, ap, ◌∙◌, inl, inr, subst, append_assoc, append-nil}
+use Rattle.std.proofs.KnownBytes.{Appends-nil}
+use Rattle.std.proofs.lemmas.Grind.{flat_map-append}
+use Rattle.std.proofs.lemmas.List.{map-append}
+use Rattle.std.specs.List.{list_all}
+use Rattle.std.specs.Prelude.{Option, None, Result, Ok, Err, OnOk, OnErr, IfErr, sum_by}
+use Rattle.std.specs.List.{flat_map}
+use Rattle.ff_rec.specs.Counts.{counted}
+use Rattle.ff_rec.specs.Lines.{Rec, line_of, text}
+use Rattle.ff_rec.specs.Streams.{IsOpen, items, carried}
+use Rattle.ff_rec.specs.declared.msg.Msg.TheVariants.{Item, Eos, Abort}
+use Rattle.ff_node.specs.Behaviour.{Behaviour, KeepsKind}
+use Rattle.ff_node.specs.Comb.{Part, comb_node}
+use Rattle.ff_node.specs.Runs.{Message}
+use Rattle.ff_port.specs.declared.answers.End.{End}
+use Rattle.ff_port.specs.declared.answers.End.TheVariants.{Eos as EndEos}
+use Rattle.ff_ring.specs.Bundles.{ahead_of}
+use Rattle.ff_stream.specs.Endings.{halted}
+use Rattle.ff_stream.specs.Jobs.{Job}
+use Rattle.ff_stream.specs.Works.{Ends, HasBroken, Halts, IsOpen as IsOpenRun}
+use Rattle.ff_stream.specs.declared.ending.Report.{Report}
+use Rattle.ff_stream.specs.declared.fault.Halt.{Halt}
+use Rattle.ff_stream.specs.declared.fault.Halt.TheVariants.{Write, NoMemory}
+use Rattle.ff_stream.specs.declared.fault.RunFault.{RunFault}
+use Rattle.ff_unit.specs.MessageLaws.{IsOpen-carried, items-append}
+use Rattle.ff_unit.specs.StageUnit.{stage_does}
+use Rattle.ff_unit.specs.Units.{IsUnit, end_of}
+use Rattle.ff_engine.specs.Callers.{CallerState, Shows, Moves, Breaks, SameRings, EndsOnce, EndsWithEos, TakesMore}
+use Rattle.ff_engine.specs.Conclusions.{Concludes}
+use Rattle.ff_engine.specs.Crews.{IsJoined}
+use Rattle.ff_engine.specs.Ends.{ends_by_eos}
+use Rattle.ff_engine.specs.Jobs.{JobState}
+use Rattle.ff_engine.specs.Lines.{Linked}
+use Rattle.ff_engine.specs.Networks.{UnitOf, HasFed, HasStopped, WorkedThrough}
+use Rattle.ff_engine.proofs.LineRuns.{AllEnded, Begun-joined, IsOpen-joined, RunEnded-joined, WorkedThrough-joined}
+
+-- what holds at every answer
+pub on_err : {A E P : Type 0} (answer : Result A E) → P → OnErr answer P
+on_err (Ok a) p = tt
+on_err (Err e) p = p
+
+-- where records alone were put, more may be
+pub IsOpen-put : (put : List Message) → put ≡ carried (items put) → IsOpen put
+IsOpen-put put is = subst (λ ms. IsOpen ms) (sym is) (IsOpen-carried (items put))
+
+-- and a record more is one of them
+pub carried-fed : {A E : Type 0} (answer : Result A E) (put put' : List Message) (r : Rec) → put ≡ carried (items put)
+    → OnOk answer (put' ≡ put ++ Item r ∷ []) → OnErr answer (put' ≡ put) → put' ≡ carried (items put')
+carried-fed (Ok a) put put' r is fed stays =
+    fed ∙ ap (λ ms. ms ++ Item r ∷ []) is ∙ sym (map-append (λ x. Item x) (items put) (r ∷ []))
+    ∙ ap carried (sym (items-append put (Item r ∷ []))) ∙ ap (λ ms. carried (items ms)) (sym fed)
+carried-fed (Err e) put put' r is fed stays = stays ∙ is ∙ ap (λ ms. carried (items ms)) (sym stays)
+
+module _ {N : Type 0} (b : Behaviour N) where
+  -- rings that stay are linked as before
+  Linked-same : (c c' : CallerState) (jobs : List (JobState (UnitOf N))) → SameRings c c' → Linked c.writes jobs c.reads → Linked c'.writes jobs c'.reads
+  Linked-same c c' jobs same linked = subst (λ w. Linked w jobs c'.reads) (sym same.writes) (subst (λ r. Linked c.writes jobs r) (sym same.reads) linked)
+
+  -- what stands may be broken off
+  pub HasStopped-fed : (j : Job N) (c : CallerState) (jobs : List (JobState (UnitOf N))) (xs : List Rec) (front : List ℕ) → HasFed b j c jobs xs front → HasStopped b j c jobs xs front
+  HasStopped-fed j c jobs xs front at = record { put = at.put; linked = at.linked; back = c.text; splits = at.shows; made = at.made }
+
+  HasStopped-breaks : (j : Job N) (c c' : CallerState) (jobs : List (JobState (UnitOf N))) (xs : List Rec) (front : List ℕ) (t t' : Option (List ℕ)) → HasFed b j c jobs xs front
+      → (broke : Breaks c c' t t') → c'.put ≡ c.put → SameRings c c' → HasStopped b j c' jobs (xs ++ []) (front ++ broke.written)
+  HasStopped-breaks j c c' jobs xs front t t' at broke put same =
+      let rest = broke.shows front at.shows in
+      record {
+        put = put ∙ at.put ∙ ap carried (sym (append-nil xs));
+        linked = Linked-same c c' jobs same at.linked;
+        back = rest.0;
+        splits = rest.1;
+        made = at.made;
+      }
+
+  module _ {W : Type 0} (seen : W → CallerState) (jobs : W → List (JobState (UnitOf N))) where
+    abbrev stands : Job N → W → List Rec → List ℕ → Type 0
+    stands = λ j w xs front. HasFed b j (seen w) (jobs w) xs front
+
+    abbrev broken : Job N → W → Halt → List Rec → List ℕ → Type 0
+    broken = λ j w halt xs front. HasStopped b j (seen w) (jobs w) xs front
+
+    -- it broke off before it took the first of these records
+    pub Halts-breaks : (w v : W) (rs : List Rec) (halt : Halt) (t t' : Option (List ℕ)) → jobs v ≡ jobs w → Breaks (seen w) (seen v) t t' → (seen v).put ≡ (seen w).put
+        → SameRings (seen w) (seen v) → Halts stands broken w rs halt v t t'
+    Halts-breaks w v rs halt t t' crew broke put same = record {
+      put = broke.written;
+      taken = broke.taken;
+      first = [];
+      rest = rs;
+      splits = refl;
+      leaves = λ j xs front at. inr (subst (λ js. HasStopped b j (seen v) js (xs ++ []) (front ++ broke.written)) (sym crew)
+          (HasStopped-breaks j (seen w) (seen v) (jobs w) xs front t t' at broke put same));
+    }
+
+    pub IfErr-breaks : {A : Type 0} (answer : Result A Halt) (w v : W) (rs : List Rec) (t t' : Option (List ℕ)) → jobs v ≡ jobs w → OnErr answer (Breaks (seen w) (seen v) t t')
+        → OnErr answer ((seen v).put ≡ (seen w).put) → SameRings (seen w) (seen v) → IfErr answer (λ halt. Halts stands broken w rs halt v t t')
+    IfErr-breaks (Ok a) w v rs t t' crew broke put same = tt
+    IfErr-breaks (Err halt) w v rs t t' crew broke put same = Halts-breaks w v rs halt t t' crew broke put same
+
+    -- it was broken off by what came
+    pub Halts-cut : (w v : W) (rs : List Rec) (halt : Halt) (t : Option (List ℕ)) → jobs v ≡ jobs w → seen v ≡ seen w → Halts stands broken w rs halt v t t
+    Halts-cut w v rs halt t crew same = record {
+      put = [];
+      taken = Appends-nil t;
+      first = [];
+      rest = rs;
+      splits = refl;
+      leaves = λ j xs front at. inr (
+          subst (λ js. HasStopped b j (seen v) js (xs ++ []) (front ++ [])) (sym crew)
+          (subst (λ s. HasStopped b j s (jobs w) (xs ++ []) (front ++ [])) (sym same)
+          (subst (λ l. HasStopped b j (seen w) (jobs w) l (front ++ [])) (sym (append-nil xs))
+          (subst (λ l. HasStopped b j (seen w) (jobs w) xs l) (sym (append-nil front)) (HasStopped-fed j (seen w) (jobs w) xs front at)))));
+    }
+
+-- a run broke off at its end
+Ends-halted : {N : Type 0} (j : Job N) (halt : Halt) (xs : List Rec) (front : List ℕ) (t t' : Option (List ℕ)) → HasBroken j halt xs front t t' → Ends j xs front t t' (Err (halted halt))
+Ends-halted j Write xs front t t' broken = broken
+Ends-halted j NoMemory xs front t t' broken = broken
+
+module _ {N : Type 0} (b : Behaviour N) (kind : KeepsKind (comb_node b)) (facts : IsUnit (stage_does (comb_node b))) (j : Job N) (c c' : CallerState)
+    (jobs : List (JobState (UnitOf N))) (xs : List Rec) (front : List ℕ) (at : HasFed b j c jobs xs front) (before : List Message) (us : List (UnitOf N)) (taken : List Message)
+    (worked worked' : ℕ) (joined : IsJoined (stage_does (comb_node b)) before jobs us taken worked worked') (puts : before ≡ c'.put) (gots : taken ≡ c'.got)
+    (t t' : Option (List ℕ)) where
+  once : EndsOnce c.put c'.put → EndsOnce (carried xs) before
+  once ends = subst (λ ms. EndsOnce (carried xs) ms) (sym puts) (subst (λ ms. EndsOnce ms c'.put) at.put ends)
+
+  -- what comes was shown in part
+  pub Ends-broken : (halt : Halt) → EndsOnce c.put c'.put → Breaks c c' t t' → Ends j xs front t t' (Err (halted halt))
+  Ends-broken halt ends broke =
+      let rest = broke.shows front at.shows in
+      Ends-halted j halt xs front t t' (record {
+        put = broke.written;
+        taken = broke.taken;
+        begun = Begun-joined b kind facts j jobs at.made before us taken worked worked' joined halt xs (once ends) (front ++ broke.written) rest.0
+            (ap (λ ms. text (items ms)) gots ∙ rest.1);
+      })
+
+  -- all that comes was shown, and memory was short
+  pub Ends-short : c'.put ≡ c.put ++ Eos ∷ [] → Moves c c' t t' → Ends j xs front t t' (Err (halted NoMemory))
+  Ends-short put moved = record {
+    put = moved.written;
+    taken = moved.taken;
+    begun = Begun-joined b kind facts j jobs at.made before us taken worked worked' joined NoMemory xs (once (inl put)) (front ++ moved.written) c'.text
+        (ap (λ ms. text (items ms)) gots ∙ moved.shows front at.shows);
+  }
+
+  module _ (put : c'.put ≡ c.put ++ Eos ∷ []) (all : list_all (λ u. ends_by_eos (end_of (stage_does (comb_node b)) u)) us ≡ true) where
+    closed-put : before ≡ carried xs ++ Eos ∷ []
+    closed-put = puts ∙ put ∙ ap (λ ms. ms ++ Eos ∷ []) at.put
+
+    -- all that comes was shown, to the end
+    pub Ends-ended : (report : Report) → EndsWithEos c'.got → Moves c c' t t' → c'.text ≡ [] → report.rejected ≡ counted (sum_by (λ u. u.rejects) us)
+        → report.kept ≡ flat_map (λ u. u.kept) us → Ends j xs front t t' (Ok report)
+    Ends-ended report eos moved shown number kept =
+        RunEnded-joined b kind facts j jobs at.made before us taken worked worked' joined xs closed-put (AllEnded (comb_node b) us all) report number kept
+        front (ahead_of (Eos ∷ []) c'.got) moved.written (gots ∙ eos)
+        (ap (λ ms. text (items ms)) gots ∙ moved.shows front at.shows ∙ ap (λ l. (front ++ moved.written) ++ l) shown ∙ append-nil (front ++ moved.written)) t t' moved.taken
+
+    -- and the jobs handled all records
+    pub WorkedThrough-ended : WorkedThrough j xs worked worked'
+    WorkedThrough-ended = WorkedThrough-joined b kind facts j jobs at.made before us taken worked worked' joined xs closed-put (AllEnded (comb_node b) us all)
+
+  -- however it ended
+  pub Ends-concluded : {A : Type 0} (shown : Result A Halt) (end : Option End) (answer : Result Report RunFault) → Concludes (stage_does (comb_node b)) shown end us answer
+      → (end ≡ Some EndEos → EndsWithEos c'.got) → OnOk shown (c'.put ≡ c.put ++ Eos ∷ []) → OnOk shown (Moves c c' t t') → OnOk shown (c'.text ≡ [])
+      → OnErr shown (EndsOnce c.put c'.put) → OnErr shown (Breaks c c' t t') → Ends j xs front t t' answer
+  Ends-concluded (Err halt) end answer concluded eos put moved shown ends broke =
+      subst (λ (a : Result Report RunFault). Ends j xs front t t' a) (sym concluded) (Ends-broken halt ends broke)
+  Ends-concluded (Ok a) end (Ok report) concluded eos put moved shown ends broke =
+      Ends-ended put concluded.units_ended report (eos concluded.stream) moved shown concluded.rejected concluded.kept
+  Ends-concluded (Ok a) end (Err fault) concluded eos put moved shown ends broke =
+      subst (λ (f : RunFault). Ends j xs front t t' (Err f)) (sym concluded) (Ends-short put moved)
+
+  pub WorkedThrough-concluded : {A : Type 0} (shown : Result A Halt) (end : Option End) (answer : Result Report RunFault)
+      → Concludes (stage_does (comb_node b)) shown end us answer → OnOk shown (c'.put ≡ c.put ++ Eos ∷ []) → OnOk answer (WorkedThrough j xs worked worked')
+  WorkedThrough-concluded (Err halt) end answer concluded put = subst (λ (a : Result Report RunFault). OnOk a (WorkedThrough j xs worked worked')) (sym concluded) tt
+  WorkedThrough-concluded (Ok a) end (Ok report) concluded put = WorkedThrough-ended put concluded.units_ended
+  WorkedThrough-concluded (Ok a) end (Err fault) concluded put = tt
+
+-- the jobs handled all records, wherever a report came of it
+pub WorkedThrough-all : {N A : Type 0} (b : Behaviour N) (kind : KeepsKind (comb_node b)) (facts : IsUnit (stage_does (comb_node b))) (c c' : CallerState)
+    (jobs : List (JobState (UnitOf N))) (before : List Message) (us : List (UnitOf N)) (taken : List Message)
+    (worked worked' : ℕ) → IsJoined (stage_does (comb_node b)) before jobs us taken worked worked' → before ≡ c'.put → taken ≡ c'.got
+    → (shown : Result A Halt) (end : Option End) (answer : Result Report RunFault) → Concludes (stage_does (comb_node b)) shown end us answer
+    → OnOk shown (c'.put ≡ c.put ++ Eos ∷ [])
+    → OnOk answer ((j : Job N) (xs : List Rec) (front : List ℕ) → HasFed b j c jobs xs front → WorkedThrough j xs worked worked')
+WorkedThrough-all b kind facts c c' jobs before us taken worked worked' joined puts gots shown end (Ok report) concluded put = λ j xs front at.
+    WorkedThrough-concluded b kind facts j c c' jobs xs front at before us taken worked worked' joined puts gots None None shown end (Ok report) concluded put
+WorkedThrough-all b kind facts c c' jobs before us taken worked worked' joined puts gots shown end (Err fault) concluded put = tt
+
+-- where Abort was put behind the records
+pub IsOpen-stopped : {N : Type 0} (b : Behaviour N) (kind : KeepsKind (comb_node b)) (facts : IsUnit (stage_does (comb_node b))) (j : Job N) (halt : Halt) (c c' : CallerState)
+    (jobs : List (JobState (UnitOf N))) (xs : List Rec) (front : List ℕ) → HasStopped b j c jobs xs front → (before : List Message) (us : List (UnitOf N)) (taken : List Message)
+    (worked worked' : ℕ) → IsJoined (stage_does (comb_node b)) before jobs us taken worked worked' → before ≡ c'.put → taken ≡ c'.got
+    → c'.put ≡ c.put ++ Abort ∷ [] → (more : TakesMore c c') → IsOpenRun j halt xs front
+IsOpen-stopped b kind facts j halt c c' jobs xs front at before us taken worked worked' joined puts gots put more =
+    IsOpen-joined b kind facts j jobs at.made before us taken worked worked' joined halt xs (puts ∙ put ∙ ap (λ ms. ms ++ Abort ∷ []) at.put)
+    front (at.back ++ text (items more.more))
+    (ap (λ ms. text (items ms)) (gots ∙ more.is) ∙ ap text (items-append c.got more.more) ∙ flat_map-append line_of (items c.got) (items more.more)
+    ∙ ap (λ l. l ++ text (items more.more)) at.splits ∙ append_assoc front at.back (text (items more.more)))

@@ -1,0 +1,15 @@
+use Rattle.std.proofs.Common.{◌≡◌, ◌≤◌, vec_len, vec_capacity}
+use Rattle.std.specs.List.{All}
+use Rattle.ff_engine.specs.Jobs.{IsFresh}
+use Rattle.ff_engine.proofs.starting.break_up.Given as goal
+
+-- the jobs that are left made no step
+abbrev pub invariant-loop-job : goal.invariant-loop-job
+invariant-loop-job g l = record {
+  fresh : All (λ j. IsFresh g.U.Unit.does j) l.jobs.items;
+  few : vec_len l.jobs ≤ vec_len l.fn.jobs;
+  room : vec_capacity l.jobs ≡ vec_capacity l.fn.jobs;
+}
+
+abbrev pub decreases-loop-job : goal.decreases-loop-job
+decreases-loop-job g l = vec_len l.jobs

@@ -1,0 +1,17 @@
+// The threads of a network before they are started.
+use crate::NetJob;
+use crate::caller::Caller;
+use ff_spawn::RunningJobs;
+use ff_unit::Unit;
+use std::sync::Wait;
+
+/// The jobs of a network, of which none was started, and all that a run by threads needs besides.
+pub(crate) struct Prepared<U: Unit, R: Wait + Drop> {
+    pub(crate) caller: Caller,
+    pub(crate) jobs: Vec<NetJob<U, R>>,
+    // Room for the units, once their threads have ended.
+    pub(crate) units: Vec<U>,
+    pub(crate) running: RunningJobs<NetJob<U, R>>,
+    // The right to wait.
+    pub(crate) rt: R,
+}

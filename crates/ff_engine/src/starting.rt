@@ -1,0 +1,113 @@
+// How the units of a network come into threads.
+ghost use Rattle.std.specs.Prelude.{◌≡◌, ◌≤◌, ◌+◌, [], false, length, vec_len, vec_capacity, All, IfOk, OnOk};
+ghost use Rattle.ff_net.specs.Forms.{has_copies};
+ghost use Rattle.ff_net.specs.Tree.{tree_of};
+ghost use Rattle.ff_spawn.specs.Counts.{count_more, denied_after};
+ghost use Rattle.ff_engine.specs.Jobs.{IsFresh};
+ghost use Rattle.ff_engine.specs.Starts.{IsPrepared};
+ghost use Rattle.ff_engine.specs.Seen.{caller_of};
+
+use crate::NetJob;
+use crate::caller::Caller;
+use crate::crew::Crew;
+use crate::laws::units_keep_laws;
+use crate::making::{make_line, new_bell};
+use crate::prepared::Prepared;
+use ff_net::Checked;
+use ff_node::{Comb, Node};
+use ff_rec::NoMemory;
+use ff_ring::Pause;
+use ff_spawn::{Denial, RunningJobs, Spawner};
+use ff_steps::make_units;
+use ff_unit::{Stage, Unit};
+use std::alloc::Global;
+use std::sync::Wait;
+
+/// Takes all memory that the threads of a network need to be started and joined.
+pub(crate) fn prepare<N: Node + Send + 'static, R: Wait + Clone + Drop + Send + 'static>(
+    rt: &R,
+    alloc: Global,
+    checked: &Checked<N>,
+    cap: u32,
+    keep: bool,
+) -> Result<Prepared<Stage<Comb<N>>, R>, NoMemory>
+    requires runs { has_copies (tree_of checked.now.net) ≡ false }
+    requires low { 1 ≤ cap }
+    requires high { cap ≤ 4096 }
+    ensures { IfOk result (λ p. IsPrepared N.does keep (tree_of checked.now.net) (caller_of p.caller)
+        p.jobs.items p.units.items (vec_capacity p.units) p.running.jobs p.running.room) }
+{
+    units_keep_laws::<N>();
+    let units = make_units(alloc, checked, keep)?;
+    let room = Vec::with_capacity(alloc, units.len())?;
+    let own = new_bell(alloc)?;
+    let (first, jobs, last) = make_line(alloc, units, cap as usize, rt, &own)?;
+    let waits = rt.clone()?;
+    let running = RunningJobs::with_capacity(alloc, jobs.len())?;
+    Ok(Prepared {
+        caller: Caller::new(alloc, first, last, Pause::new(own)),
+        jobs,
+        units: room,
+        running,
+        rt: waits,
+    })
+}
+
+/// Starts all jobs. Where that can't be done, those that were started are ended and joined.
+pub(crate) fn start<
+    U: Unit + Send + 'static,
+    R: Wait + Drop + Send + 'static,
+    S: Spawner<NetJob<U, R>>,
+>(
+    rt: &R,
+    alloc: Global,
+    prepared: Prepared<U, R>,
+    spawner: &mut S,
+) -> Result<(Caller, Crew<U, R>, R), Denial>
+    requires fresh { All (λ j. IsFresh U.does j) prepared.jobs.items }
+    requires none { prepared.running.jobs ≡ [] }
+    requires room { length prepared.jobs.items ≤ prepared.running.room }
+    requires empty { prepared.units.items ≡ [] }
+    requires unit_room { length prepared.jobs.items ≤ vec_capacity prepared.units }
+    ensures caller { IfOk result (λ s. caller_of s.0 ≡ caller_of prepared.caller) }
+    ensures crew { IfOk result (λ s. s.1 ≡ prepared.jobs.items) }
+    ensures refused { S.refused spawner.new ≡ denied_after (S.refused spawner.old) result }
+    ensures starts { OnOk result
+        (S.starts spawner.new ≡ count_more (S.starts spawner.old) prepared.jobs.items) }
+    ensures worked { OnOk result (S.worked spawner.new ≡ S.worked spawner.old) }
+{
+    let Prepared {
+        mut caller,
+        mut jobs,
+        units,
+        mut running,
+        rt: waits,
+    } = prepared;
+    match running.start_all(alloc, spawner, &mut jobs) {
+        Ok(()) => Ok((caller, Crew::new(running, jobs, units), waits)),
+        Err(denial) => {
+            break_up(&mut caller, rt, running, jobs, spawner);
+            Err(denial)
+        }
+    }
+}
+
+// Ends the jobs of which not all could be started: those that were see an Abort from those that weren't.
+fn break_up<U: Unit + Send + 'static, R: Wait + Drop + Send + 'static, S: Spawner<NetJob<U, R>>>(
+    caller: &mut Caller,
+    rt: &R,
+    running: RunningJobs<NetJob<U, R>>,
+    jobs: Vec<NetJob<U, R>>,
+    spawner: &mut S,
+)
+    requires fresh { All (λ j. IsFresh U.does j) jobs.items }
+    requires room { vec_len jobs + length running.jobs ≤ vec_capacity jobs }
+    ensures refused { S.refused spawner.new ≡ S.refused spawner.old }
+{
+    let mut jobs = jobs;
+    while let Some(mut job) = jobs.pop() {
+        job.abort();
+    }
+    caller.drop_rest(rt);
+    running.finish_all(spawner, &mut jobs);
+}
