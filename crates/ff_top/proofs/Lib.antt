@@ -4,6 +4,7 @@ pub mod Limited
 pub mod SameText
 pub mod LongFiles
 pub mod Accepted
+pub mod Answering
 pub mod Finished
 pub mod Executed
 pub mod Calls

@@ -54,12 +54,7 @@ fn work<
     E: Sink,
     R: Wait + Clone + Drop + Send + 'static,
     S: Spawner<NetJob<Stage<Comb<Op>>, R>>,
->(
-    rt: &R,
-    alloc: Global,
-    job: Command,
-    devices: &mut Devices<F, I, O, E, S>,
-) -> Result<u64, Fault>
+>(rt: &R, alloc: Global, job: Command, devices: &mut Devices<F, I, O, E, S>) -> Result<u64, Fault>
     ensures worked { let seen = ⟦<Devices<F, I, O, E, S> as Seen>⟧.outside in
         Worked job (seen devices.old) (seen devices.new) result }
     ensures counts { let seen = ⟦<Devices<F, I, O, E, S> as Seen>⟧.outside in

@@ -31,12 +31,7 @@ pub fn ffrun<
     E: Sink,
     R: Wait + Clone + Drop + Send + 'static,
     S: Spawner<NetJob<Stage<Comb<Op>>, R>>,
->(
-    rt: &R,
-    alloc: Global,
-    words: &[String],
-    devices: &mut Devices<F, I, O, E, S>,
-) -> u8
+>(rt: &R, alloc: Global, words: &[String], devices: &mut Devices<F, I, O, E, S>) -> u8
     ensures status { Contains (0 ∷ 1 ∷ 2 ∷ 3 ∷ 4 ∷ 5 ∷ 6 ∷ []) result }
 
     // Each answer with its status, when it comes, what was read, written and stored then, which count of faults or of refused

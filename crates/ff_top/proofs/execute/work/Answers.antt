@@ -1,4 +1,4 @@
--- The command `run` is given a network.
+-- The command is given a network.
 use Rattle.std.proofs.Common.{sym, ap, subst, inr}
 use Rattle.ff_top.specs.Commands.{DoneWith, given_to}
 use Rattle.ff_top.specs.Outside.{outside_of}
@@ -15,4 +15,15 @@ returns-in-Run-clause-worked g c =
       given = c.in-Run.given;
       is = ap given_to c.in-Run.is;
       handled = subst (λ (job : Command). Handled c.in-Run.given (DoneWith job) before now c.run_given.result) (sym c.in-Run.is) c.run_given.ensures.handled;
+    })
+
+pub returns-in-Check-clause-worked : goal.returns-in-Check-clause-worked
+returns-in-Check-clause-worked g c =
+    let seen = outside_of g.F.Files.told g.F.Files.faults g.I.Source.left g.I.Source.ended g.I.Source.faults g.O.Sink.taken g.O.Sink.faults g.S.Refusals.refused g.S.Refusals.starts g.S.Refusals.worked in
+    let before = seen c.args.devices.now.files c.args.devices.now.input c.args.devices.now.out c.args.devices.now.spawner in
+    let now = seen c.check_given.new.devices.files c.check_given.new.devices.input c.check_given.new.devices.out c.check_given.new.devices.spawner in
+    inr (record {
+      given = c.in-Check.given;
+      is = ap given_to c.in-Check.is;
+      handled = subst (λ (job : Command). Handled c.in-Check.given (DoneWith job) before now c.check_given.result) (sym c.in-Check.is) c.check_given.ensures.handled;
     })

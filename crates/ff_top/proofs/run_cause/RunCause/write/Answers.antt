@@ -17,5 +17,5 @@ returns-in-Rejects g c =
 pub returns-in-Read : goal.returns-in-Read
 returns-in-Read g c =
     let a = c.args.sink.now in
-    let b = c.write_piece.new.sink in
-    subst (λ (cause : RunCause). Writes (g.E.Sink.taken a) (g.E.Sink.taken b) (g.E.Sink.faults a) (g.E.Sink.faults b) (run_message cause) c.write_piece.result) (sym c.in-Read.is) c.write_piece.ensures
+    let b = c.write_piece-in-Read.new.sink in
+    subst (λ (cause : RunCause). Writes (g.E.Sink.taken a) (g.E.Sink.taken b) (g.E.Sink.faults a) (g.E.Sink.faults b) (run_message cause) c.write_piece-in-Read.result) (sym c.in-Read.is) c.write_piece-in-Read.ensures

@@ -1,0 +1,20 @@
+-- The network ran by threads.
+use Rattle.ff_net.specs.Tree.{tree_of}
+use Rattle.ff_top.proofs.Answering.{Answered-job, Answered-threads}
+use Rattle.ff_top.specs.Outside.{outside_of}
+use Rattle.ff_top.specs.Running.{by_threads}
+use Rattle.ff_top.proofs.run.answer.Goals as goal
+
+pub returns-else-not-runs-clause-ran : goal.returns-else-not-runs-clause-ran
+returns-else-not-runs-clause-ran g c =
+    let r = c.run_net in
+    let seen = outside_of g.F.Files.told g.F.Files.faults g.I.Source.left g.I.Source.ended g.I.Source.faults g.O.Sink.taken g.O.Sink.faults g.S.Refusals.refused g.S.Refusals.starts g.S.Refusals.worked in
+    let before = seen c.args.devices.now.files c.args.devices.now.input c.args.devices.now.out c.args.devices.now.spawner in
+    let now = seen c.args.devices.now.files r.new.source r.new.sink r.new.spawner in
+    let t = tree_of c.args.checked.now.net in
+    let v = c.args.checked.now.version in
+    let keep = c.is_some-keep.result in
+    let tasks = c.args.order.now.tasks in
+    let threads = by_threads c.args.order.now.one t in
+    Answered-job t v keep tasks c.args.order.now.rejects threads before now r.result c.requires c.is_some-keep.ensures
+    (Answered-threads t v keep tasks threads before now r.result r.ensures.run r.ensures.work r.ensures.starts)
