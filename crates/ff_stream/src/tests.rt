@@ -1,6 +1,7 @@
 // What no clause says: that the calls succeed while memory is there, and that the clauses mean these bytes.
 mod endings;
 mod nodes;
+mod takings;
 mod texts;
 
 use crate::{Ending, Report, RunFault, Stop, run_stream};
