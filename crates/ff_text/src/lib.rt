@@ -18,6 +18,8 @@ mod operation;
 mod print;
 mod reader;
 mod schedule;
+#[cfg(test)]
+mod tables;
 mod text_mark;
 mod token;
 mod token_argument;

@@ -2,6 +2,8 @@
 use super::{record, shows};
 use crate::{Class, Comb, Next, Node, Records, Sends, node_end, node_step};
 use ff_rec::{NoMemory, Record};
+use std::alloc::Global;
+use std::process::Abort;
 use std::test::Fail;
 
 // Rejects its first record, holds each other one back until the next one comes or the end, and ends after `most` records.
@@ -93,21 +95,28 @@ fn delay_of(most: u64) -> Delay {
     }
 }
 
-fn parts_of(rt: &HostRuntime, most: &[u64]) -> Result<Vec<Delay>, Fail> {
-    let mut parts = Vec::new(rt.alloc());
+fn parts_of(alloc: Global, most: &[u64]) -> Result<Vec<Delay>, Fail> {
+    let mut parts = Vec::new(alloc);
     for most in most {
         parts.push(delay_of(*most))?;
     }
     Ok(parts)
 }
 
+fn comb_of(rt: &impl Abort, alloc: Global, most: &[u64]) -> Result<Comb<Delay>, Fail> {
+    let parts = parts_of(alloc, most)?;
+    assert!(rt; !parts.is_empty());
+    assert!(rt; parts.len() <= 64);
+    Ok(Comb::new(parts))
+}
+
 // What a comb sends and rejects for `a` to `f`, behind an `x` that was sent before.
-fn run(mut comb: Comb<Delay>, rt: &HostRuntime) -> Result<Sends, Fail> {
-    let mut out = Sends::new(rt.alloc(), true);
-    out.send(record(rt, b"x")?)?;
+fn run(alloc: Global, mut comb: Comb<Delay>) -> Result<Sends, Fail> {
+    let mut out = Sends::new(alloc, true);
+    out.send(record(alloc, b"x")?)?;
     comb.svc_init();
-    for name in [b"a", b"b", b"c", b"d", b"e", b"f"] {
-        if node_step(&mut comb, record(rt, name)?, &mut out)?.is_eos() {
+    for name in b"abcdef" {
+        if node_step(&mut comb, record(alloc, &[*name])?, &mut out)?.is_eos() {
             return Ok(out);
         }
     }
@@ -115,40 +124,43 @@ fn run(mut comb: Comb<Delay>, rt: &HostRuntime) -> Result<Sends, Fail> {
     Ok(out)
 }
 
-// Whether these are records of one field each, with these bytes.
-fn are(records: &Records, fields: &[&[u8]]) -> bool {
-    if records.len() != fields.len() {
+// Whether these are records of one field each, with one of these bytes each.
+fn are(records: &Records, names: &[u8]) -> bool {
+    if records.len() != names.len() {
         return false;
     }
-    for (k, field) in fields.iter().enumerate() {
-        if !shows(records.get(k), field) {
+    for (k, name) in names.iter().enumerate() {
+        if !shows(records.get(k), &[*name]) {
             return false;
         }
     }
     true
 }
 
+// A comb whose parts end after so many records: what comes out of it, and what the parts reject.
+fn check_comb(
+    rt: &impl Abort,
+    alloc: Global,
+    most: &[u64],
+    sent: &[u8],
+    rejected: &[u8],
+) -> Result<(), Fail> {
+    let comb = comb_of(rt, alloc, most)?;
+    assert!(rt; comb.class() == Class::Ordered);
+    let mut out = run(alloc, comb.copy()?)?;
+    assert!(rt; are(&out.take_sends()?, sent));
+    assert_eq!(rt; out.rejects(), rejected.len() as u64);
+    assert!(rt; are(&out.take_kept(), rejected));
+    Ok(())
+}
+
+// Each part rejects its first record.
 #[test]
 fn combs(rt: HostRuntime) -> Result<(), Fail> {
-    // After how many records each part ends, what comes out, and what the parts reject: each its first record.
-    let cases: [(&[u64], &[&[u8]], &[&[u8]]); 4] = [
-        (&[100], &[b"x", b"b", b"c", b"d", b"e", b"f"], &[b"a"]),
-        (&[100, 100], &[b"x", b"c", b"d", b"e", b"f"], &[b"a", b"b"]),
-        // The middle part ends by itself at its third record, and sends what it held.
-        (&[100, 3, 100], &[b"x", b"d"], &[b"a", b"b", b"c"]),
-        // The first part ends at its second record, and the comb with it.
-        (&[2, 100], &[b"x"], &[b"a", b"b"]),
-    ];
-    for (most, sent, rejected) in cases {
-        let parts = parts_of(&rt, most)?;
-        assert!(rt; !parts.is_empty());
-        assert!(rt; parts.len() <= 64);
-        let comb = Comb::new(parts);
-        assert!(rt; comb.class() == Class::Ordered);
-        let mut out = run(comb.copy()?, &rt)?;
-        assert!(rt; are(&out.take_sends()?, sent));
-        assert_eq!(rt; out.rejects(), rejected.len() as u64);
-        assert!(rt; are(&out.take_kept(), rejected));
-    }
-    Ok(())
+    check_comb(&rt, rt.alloc(), &[100], b"xbcdef", b"a")?;
+    check_comb(&rt, rt.alloc(), &[100, 100], b"xcdef", b"ab")?;
+    // The middle part ends by itself at its third record, and sends what it held.
+    check_comb(&rt, rt.alloc(), &[100, 3, 100], b"xd", b"abc")?;
+    // The first part ends at its second record, and the comb with it.
+    check_comb(&rt, rt.alloc(), &[2, 100], b"x", b"ab")
 }

@@ -5,8 +5,10 @@ ghost use Rattle.ff_text.specs.Seen.{names_of};
 
 use super::network;
 use crate::context::{Context, NamedNet};
-use crate::{Described, ReadFault, Reader, TextKind, Token, print_net, read_net};
-use ff_net::Version;
+use crate::tables::expect_told;
+use crate::{Described, ReadFault, Reader, Token, print_net, read_net};
+use ff_net::{Net, Version};
+use ff_ops::Op;
 use std::alloc::Global;
 use std::process::Abort;
 use std::test::Fail;
@@ -22,41 +24,62 @@ fn let_stand(alloc: Global, context: &mut Context, word: &[u8], text: &[u8]) -> 
     Ok(())
 }
 
-fn expect_read(
-    rt: &impl Abort,
-    alloc: Global,
-    context: &Context,
-    room: usize,
-    text: &[u8],
-    printed: &[u8],
-) -> Result<(), Fail>
-    requires { AreNets (names_of context.now) }
-{
-    let mut reader = Reader::new(text);
-    let net = network(alloc, context, room, &mut reader)?;
-    assert!(rt; matches!(reader.peek().token, Token::Stop));
-    let mut out = Vec::new(alloc);
-    print_net(&net, &mut out)?;
-    assert_eq!(rt; out.as_slice(), printed);
-    Ok(())
+// A network that is read to the end of its text, printed.
+fn shown(alloc: Global, net: &Net<Op>, reader: &Reader) -> Result<String, Fail> {
+    if reader.peek().token != Token::Stop {
+        return Err("it isn't read to its end".into());
+    }
+    let mut text = Vec::new(alloc);
+    print_net(net, &mut text)?;
+    Ok(String::from_utf8(text).map_err(|_| "no text")?)
 }
 
-fn expect_fault(
-    rt: &impl Abort,
-    alloc: Global,
-    context: &Context,
-    room: usize,
-    text: &[u8],
-    at: usize,
-    kind: TextKind,
-)
+// The network of a text, printed, or the place and the kind of its first fault.
+fn told(alloc: Global, context: &Context, room: usize, text: &[u8]) -> Result<String, Fail>
     requires { AreNets (names_of context.now) }
 {
     let mut reader = Reader::new(text);
     match network(alloc, context, room, &mut reader) {
-        Ok(_) => panic!(rt; "it is read"),
-        Err(fault) => assert_eq!(rt; fault, ReadFault::Text { at, kind }),
+        Ok(net) => shown(alloc, &net, &reader),
+        Err(ReadFault::Text { at, kind }) => Ok(format!(in alloc; "{at} {kind:?}")?),
+        Err(fault) => Ok(format!(in alloc; "{fault:?}")?),
     }
+}
+
+fn check(
+    rt: &impl Abort,
+    alloc: Global,
+    context: &Context,
+    room: usize,
+    text: &[u8],
+    want: &str,
+) -> Result<(), Fail>
+    requires { AreNets (names_of context.now) }
+{
+    let found = told(alloc, context, room, text)?;
+    expect_told(rt, text, found.as_bytes(), want.as_bytes());
+    Ok(())
+}
+
+// Reads the texts of a table in this room, and compares.
+fn check_table(
+    rt: &impl Abort,
+    alloc: Global,
+    context: &Context,
+    room: usize,
+    table: &str,
+) -> Result<(), Fail>
+    requires { AreNets (names_of context.now) }
+{
+    let mut tried = false;
+    for line in table.lines() {
+        if let Some((text, want)) = line.split_once(" | ") {
+            check(rt, alloc, context, room, text.as_bytes(), want)?;
+            tried = true;
+        }
+    }
+    assert!(rt; tried);
+    Ok(())
 }
 
 // What words stand for in the texts below; forms and operations come before names.
@@ -73,57 +96,55 @@ fn names(alloc: Global) -> Result<Context, Fail>
     Ok(context)
 }
 
+// Texts, and behind a bar the printed network, or the place and the kind of the first fault.
+const ANY_DEPTH: &str = r#"
+w | add 1 1
+farm 2 rr (w) | farm 2 rr (add 1 1)
+comb(w, neg 1, w) | comb(add 1 1, neg 1, add 1 1)
+a2a 1 (w) od 2 (deep) | a2a 1 (add 1 1) od 2 (pipe(pipe(id)))
+wrap 2 (w) if 1 > 1 | wrap 2 (add 1 1) if 1 > 1
+pipe(id) | pipe(id)
+farm 2 rr (rr) | farm 2 rr (neg 3)
+v | 0 UnknownName
+pipe(w; w) | 6 BadToken
+; w | 0 BadToken
+// The test of a wrap is no use, though an operation is spelled alike.
+wrap 2 (id) x | 12 BadToken
+"#;
+
+const ROOM_FOR_THREE: &str = "pipe(id, deep) | pipe(id, pipe(pipe(id)))";
+
+const ROOM_FOR_TWO: &str = r#"
+deep | pipe(pipe(id))
+pipe(id, deep) | 9 Deep
+"#;
+
+const ROOM_FOR_ONE: &str = "deep | 0 Deep";
+
 #[test]
 fn words_stand_for_networks(rt: HostRuntime) -> Result<(), Fail> {
     let alloc = rt.alloc();
     let context = names(alloc)?;
-    for (room, text, printed) in [
-        (15, "w", "add 1 1"),
-        (15, "farm 2 rr (w)", "farm 2 rr (add 1 1)"),
-        (15, "comb(w, neg 1, w)", "comb(add 1 1, neg 1, add 1 1)"),
-        (
-            15,
-            "a2a 1 (w) od 2 (deep)",
-            "a2a 1 (add 1 1) od 2 (pipe(pipe(id)))",
-        ),
-        (15, "wrap 2 (w) if 1 > 1", "wrap 2 (add 1 1) if 1 > 1"),
-        (15, "pipe(id)", "pipe(id)"),
-        (15, "farm 2 rr (rr)", "farm 2 rr (neg 3)"),
-        (2, "deep", "pipe(pipe(id))"),
-        (3, "pipe(id, deep)", "pipe(id, pipe(pipe(id)))"),
+    for (room, table) in [
+        (15, ANY_DEPTH),
+        (3, ROOM_FOR_THREE),
+        (2, ROOM_FOR_TWO),
+        (1, ROOM_FOR_ONE),
     ] {
-        expect_read(
-            &rt,
-            alloc,
-            &context,
-            room,
-            text.as_bytes(),
-            printed.as_bytes(),
-        )?;
-    }
-    for (room, text, at, kind) in [
-        (1, "deep", 0, TextKind::Deep),
-        (2, "pipe(id, deep)", 9, TextKind::Deep),
-        (15, "v", 0, TextKind::UnknownName),
-        (15, "pipe(w; w)", 6, TextKind::BadToken),
-        (15, "; w", 0, TextKind::BadToken),
-        // The test of a wrap is no use, though an operation is spelled alike.
-        (15, "wrap 2 (id) x", 12, TextKind::BadToken),
-    ] {
-        expect_fault(&rt, alloc, &context, room, text.as_bytes(), at, kind);
+        check_table(&rt, alloc, &context, room, table)?;
     }
     Ok(())
 }
 
+// Texts of version One.
+const NO_NAMES: &str = r#"
+w | 0 UnknownName
+pipe(id; id) | 7 BadByte
+; id | 0 BadByte
+"#;
+
 #[test]
-fn no_word_stands_for_a_network(rt: HostRuntime) {
-    let alloc = rt.alloc();
-    let one = Context::new(alloc, Version::One);
-    for (text, at, kind) in [
-        ("w", 0, TextKind::UnknownName),
-        ("pipe(id; id)", 7, TextKind::BadByte),
-        ("; id", 0, TextKind::BadByte),
-    ] {
-        expect_fault(&rt, alloc, &one, 15, text.as_bytes(), at, kind);
-    }
+fn no_word_stands_for_a_network(rt: HostRuntime) -> Result<(), Fail> {
+    let context = Context::new(rt.alloc(), Version::One);
+    check_table(&rt, rt.alloc(), &context, 15, NO_NAMES)
 }
