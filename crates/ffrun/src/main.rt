@@ -2,6 +2,7 @@
 #![tactic(auto)]
 
 use ff_io::{HostFiles, StderrSink, StdinSource, StdoutSink};
+use ff_spawn::Threads;
 use ff_top::{Devices, ffrun, refuse_memory};
 use std::alloc::Global;
 use std::io::ErrorKind;
@@ -20,13 +21,17 @@ fn main(rt: HostRuntime) -> ExitCode {
         // An argument that isn't UTF-8 is part of no command, as no words are.
         Err(_) => Vec::new(alloc),
     };
+    let Ok(threads) = rt.clone() else {
+        return ExitCode::from(refuse_memory(&mut err));
+    };
     let mut devices = Devices {
         files: HostFiles::new(alloc, &rt, rt.stderr()),
         input: StdinSource::new(rt.stdin()),
         out: StdoutSink::new(rt.stdout()),
         err,
+        spawner: Threads::new(threads),
     };
-    let status = ffrun(alloc, &words, &mut devices);
+    let status = ffrun(&rt, alloc, &words, &mut devices);
     ExitCode::from(status)
 }
 

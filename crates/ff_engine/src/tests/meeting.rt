@@ -3,6 +3,7 @@ use crossbeam_utils::atomic::AtomicCell;
 use ff_node::{Class, Next, Node, Sends};
 use ff_rec::{NoMemory, Record};
 use std::hint;
+use std::marker::Model;
 use std::sync::Arc;
 
 // How often a node looks whether the other is there.
@@ -41,6 +42,15 @@ pub enum Place {
 pub struct Meets {
     pub place: Place,
     pub flags: Arc<Flags>,
+}
+
+// What it does is the same whatever the flags say.
+impl Model for Meets {
+    ghost use Rattle.ff_engine.specs.declared.tests.meeting.Place.{Place};
+
+    ghost Value = { Place };
+
+    ghost view = { λ m. m.place };
 }
 
 impl Meets {

@@ -72,6 +72,7 @@ fn compare<R: thread::Threads + Wait + Abort + Clone + Drop + Send + 'static>(
     cap: u32,
     case: Case,
 ) -> Result<(), Fail> {
+    assert!(rt; runs(net));
     let bytes = Vec::from_slice(alloc, case.input)?;
     let mut source = MemSource::new(bytes, 2, vec![in alloc; case.fails]?);
     let mut sink = MemSink::new(alloc, case.budget, Vec::new(alloc))?;
@@ -101,7 +102,6 @@ fn compare<R: thread::Threads + Wait + Abort + Clone + Drop + Send + 'static>(
 fn runs_of_every_end(rt: HostRuntime) -> Result<(), Fail> {
     let alloc = rt.alloc();
     let net = checked(gates(alloc)?)?;
-    assert!(rt; runs(&net));
     for cap in CAPS {
         for (input, fails, budget, kind, out, rejected) in [
             (
@@ -137,6 +137,7 @@ fn runs_of_every_end(rt: HostRuntime) -> Result<(), Fail> {
 fn refused_starts(rt: HostRuntime) -> Result<(), Fail> {
     let alloc = rt.alloc();
     let net = checked(gates(alloc)?)?;
+    assert!(rt; runs(&net));
     for refused in [1, 2, 3, 4] {
         let mut source = MemSource::new(Vec::from_slice(alloc, b"1\n")?, 2, Vec::new(alloc));
         let mut sink = MemSink::new(alloc, 99, Vec::new(alloc))?;
@@ -174,6 +175,7 @@ fn meet_line(rt: HostRuntime) -> Result<(), Fail> {
         }))?;
     }
     let net = checked(Net::Pipe(parts))?;
+    assert!(rt; runs(&net));
     let mut source = MemSource::new(Vec::from_slice(alloc, b"1\n2\n")?, 64, Vec::new(alloc));
     let mut sink = MemSink::new(alloc, 99, Vec::new(alloc))?;
     let mut spawner = Threads::new(rt.clone()?);
