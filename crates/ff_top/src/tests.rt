@@ -1,8 +1,10 @@
 // What no clause says: that the calls succeed while memory is there, and that the definitions mean these bytes.
+ghost use Rattle.std.specs.Prelude.{◌≤◌};
+
 use crate::{Devices, ffrun};
-use cases::{Case, cases_of};
+use cases::{Case, case_of, is_call, text_of, words_of};
 use ff_io::{MemFiles, MemSink, MemSource, ShortSink};
-use std::alloc::Global;
+use std::alloc::{AllocError, Global};
 use std::process::Abort;
 use std::test::Fail;
 
@@ -19,7 +21,9 @@ mod rejects;
 mod texts;
 
 // How the devices of a call behave: what the file `net.txt` holds, the call of the files that fails, the most that a read
-// gives, the read that fails (calls are counted from 1), what the sinks take in all, and the output at once.
+// gives, the read that fails (calls are counted from 1), what the sinks take in all, and the output at once. And how its
+// answer is compared: whether the lines of the output may come in any order, and the file, if any, that stands in the last
+// column, whose lines always may.
 #[derive(Clone, Copy)]
 struct Setting<'a> {
     file: &'a [u8],
@@ -29,6 +33,8 @@ struct Setting<'a> {
     out: usize,
     err: usize,
     short: usize,
+    any_order: bool,
+    stored: &'a str,
 }
 
 // Devices that do all that is asked of them.
@@ -40,15 +46,17 @@ const SOUND: Setting = Setting {
     out: 200_000,
     err: 100,
     short: 200_000,
+    any_order: false,
+    stored: "",
 };
 
-// What a call answers, and what its sinks took.
-#[derive(Clone, Copy)]
-struct Want<'a> {
-    status: u8,
-    out: &'a [u8],
-    err: &'a [u8],
-}
+const ANY_ORDER: Setting = Setting {
+    any_order: true,
+    ..SOUND
+};
+
+// The devices of a call, in memory.
+type Made = Devices<MemFiles, MemSource, ShortSink<MemSink>, MemSink>;
 
 // What a call answered, and its devices behind it.
 #[derive(Drop)]
@@ -60,19 +68,7 @@ struct Answer {
     err: MemSink,
 }
 
-impl Answer {
-    // What the output took.
-    fn out(&self) -> &[u8] {
-        self.out.taken()
-    }
-
-    // What was said.
-    fn err(&self) -> &[u8] {
-        self.err.taken()
-    }
-}
-
-// Makes the call. The second write to the sink of messages fails, so that only a message of one write is whole.
+// Makes the call.
 fn call(
     rt: &impl Abort,
     alloc: Global,
@@ -81,140 +77,187 @@ fn call(
     by: Setting,
 ) -> Result<Answer, Fail> {
     assert!(rt; 1 <= by.most && 1 <= by.short);
-    let bytes = Vec::from_slice(alloc, input)?;
-    let mut devices = Devices {
-        files: make_files(alloc, by)?,
-        input: MemSource::new(bytes, by.most, vec![in alloc; by.fails]?),
-        out: ShortSink::new(MemSink::new(alloc, by.out, Vec::new(alloc))?, by.short),
-        err: MemSink::new(alloc, by.err, vec![in alloc; 2]?)?,
-    };
+    let mut devices = make_devices(alloc, input, by)?;
     let status = ffrun(alloc, words, &mut devices);
+    Ok(answered(status, devices))
+}
+
+fn answered(status: u8, devices: Made) -> Answer {
     let Devices {
         files,
         input,
         out,
         err,
     } = devices;
-    Ok(Answer {
+    let out = out.into_inner();
+    Answer {
         status,
         files,
         input,
-        out: out.into_inner(),
+        out,
         err,
+    }
+}
+
+// The devices of a call. The second write to the sink of messages fails, so that only a message of one write is whole.
+fn make_devices(alloc: Global, input: &[u8], by: Setting) -> Result<Made, Fail>
+    requires most { 1 ≤ by.most }
+    requires short { 1 ≤ by.short }
+{
+    Ok(Devices {
+        files: make_files(alloc, by)?,
+        input: MemSource::new(
+            Vec::from_slice(alloc, input)?,
+            by.most,
+            vec![in alloc; by.fails]?,
+        ),
+        out: ShortSink::new(MemSink::new(alloc, by.out, Vec::new(alloc))?, by.short),
+        err: MemSink::new(alloc, by.err, vec![in alloc; 2]?)?,
     })
 }
 
 // The files of a call.
-fn make_files(alloc: Global, by: Setting) -> Result<MemFiles, Fail> {
+fn make_files(alloc: Global, by: Setting) -> Result<MemFiles, AllocError> {
     let mut list = Vec::new(alloc);
-    list.push((
-        String::from_str(alloc, "net.txt")?,
-        Vec::from_slice(alloc, by.file)?,
-    ))?;
+    list.push(make_file(alloc, by.file)?)?;
     Ok(MemFiles::new(list, vec![in alloc; by.load]?))
 }
 
-// Makes the call with these words, and compares.
-fn check(
-    rt: &impl Abort,
-    alloc: Global,
-    words: &[&str],
-    input: &[u8],
-    by: Setting,
-    want: Want,
-) -> Result<Answer, Fail> {
-    let mut list = Vec::new(alloc);
-    for word in words {
-        list.push(String::from_str(alloc, word)?)?;
-    }
-    let answer = call(rt, alloc, &list, input, by)?;
-    assert_eq!(rt; answer.status, want.status, "{words:?}");
-    assert_eq!(rt; answer.out(), want.out, "out, {words:?}");
-    assert_eq!(rt; answer.err(), want.err, "err, {words:?}");
-    Ok(answer)
+fn make_file(alloc: Global, content: &[u8]) -> Result<(String, Vec<u8>), AllocError> {
+    Ok((
+        String::from_str(alloc, "net.txt")?,
+        Vec::from_slice(alloc, content)?,
+    ))
 }
 
 // Makes the calls of a table, and compares.
 fn check_table(rt: &impl Abort, alloc: Global, table: &str, by: Setting) -> Result<(), Fail> {
-    for case in cases_of(rt, alloc, table)? {
-        check_case(rt, alloc, &case, by)?;
-    }
-    Ok(())
-}
-
-// Makes the call of a case, and compares.
-fn check_case(rt: &impl Abort, alloc: Global, case: &Case, by: Setting) -> Result<(), Fail> {
-    let answer = call(rt, alloc, &case.words, &case.input, by)?;
-    assert_eq!(rt; answer.out(), case.out.as_slice(), "out, {:?}", case.words);
-    expect_told(rt, case, &answer);
-    Ok(())
-}
-
-// Makes the calls of a table, each with `--one` too, and compares. The lines of the output may come in any order where that is
-// said.
-fn check_networks(rt: &impl Abort, alloc: Global, table: &str, any: bool) -> Result<(), Fail> {
-    for mut case in cases_of(rt, alloc, table)? {
-        check_network(rt, alloc, &case, any)?;
-        case.words = words_behind(alloc, "run", "--one", &case.words)?;
-        check_network(rt, alloc, &case, any)?;
-    }
-    Ok(())
-}
-
-// These words but the first, behind two others.
-fn words_behind(
-    alloc: Global,
-    first: &str,
-    second: &str,
-    words: &[String],
-) -> Result<Vec<String>, Fail> {
-    let mut list = Vec::new(alloc);
-    list.push(String::from_str(alloc, first)?)?;
-    list.push(String::from_str(alloc, second)?)?;
-    for word in words.iter().skip(1) {
-        list.push(String::from_str(alloc, word.as_str())?)?;
-    }
-    Ok(list)
-}
-
-// Makes the call of a case, and compares.
-fn check_network(rt: &impl Abort, alloc: Global, case: &Case, any: bool) -> Result<(), Fail> {
-    if !any {
-        return check_case(rt, alloc, case, SOUND);
-    }
-    let answer = call(rt, alloc, &case.words, &case.input, SOUND)?;
-    let lines = sorted_lines(alloc, answer.out())?;
-    assert_eq!(rt;
-        lines,
-        sorted_lines(alloc, &case.out)?,
-        "out, {:?}",
-        case.words
-    );
-    expect_told(rt, case, &answer);
-    Ok(())
-}
-
-// A call has this status and says this.
-fn expect_told(rt: &impl Abort, case: &Case, answer: &Answer) {
-    assert_eq!(rt; answer.status, case.status, "{:?}", case.words);
-    assert_eq!(rt; answer.err(), case.err.as_slice(), "err, {:?}", case.words);
-}
-
-// The lines of a text in byte order. Behind its last newline stands one more, which is empty.
-fn sorted_lines(alloc: Global, text: &[u8]) -> Result<Vec<Vec<u8>>, Fail> {
-    let mut lines = Vec::new(alloc);
-    let mut line = Vec::new(alloc);
-    for byte in text {
-        if *byte == b'\n' {
-            lines.push(line)?;
-            line = Vec::new(alloc);
-        } else {
-            line.push(*byte)?;
+    let mut tried = false;
+    for line in table.lines() {
+        if is_call(line) {
+            check_case(rt, alloc, case_of(line)?, by)?;
+            tried = true;
         }
     }
-    lines.push(line)?;
+    assert!(rt; tried);
+    Ok(())
+}
+
+// Makes the calls of a table, each as `run --one` too, and compares.
+fn check_twice(rt: &impl Abort, alloc: Global, table: &str, by: Setting) -> Result<(), Fail> {
+    check_table(rt, alloc, table, by)?;
+    for line in table.lines() {
+        if is_call(line) {
+            check_one(rt, alloc, case_of(line)?, by)?;
+        }
+    }
+    Ok(())
+}
+
+// Makes the call of a case as `run --one`, whatever its first word is, and compares.
+fn check_one(rt: &impl Abort, alloc: Global, case: Case, by: Setting) -> Result<(), Fail> {
+    let verb = "run --one";
+    check_case(rt, alloc, Case { verb, ..case }, by)
+}
+
+// Makes the call of a case, and compares.
+fn check_case(rt: &impl Abort, alloc: Global, case: Case, by: Setting) -> Result<(), Fail> {
+    let words = words_of(alloc, case)?;
+    let answer = answer_of(rt, alloc, &words, case.input, by)?;
+    expect_case(rt, alloc, &words, &answer, case, by)
+}
+
+// What the call answers on an input that stands so in a table.
+fn answer_of(
+    rt: &impl Abort,
+    alloc: Global,
+    words: &[String],
+    input: &str,
+    by: Setting,
+) -> Result<Answer, Fail> {
+    let input = text_of(alloc, input)?;
+    call(rt, alloc, words, input.as_bytes(), by)
+}
+
+// What a call answered is that of its case.
+fn expect_case(
+    rt: &impl Abort,
+    alloc: Global,
+    words: &[String],
+    answer: &Answer,
+    case: Case,
+    by: Setting,
+) -> Result<(), Fail> {
+    expect_status(rt, words, answer.status, case.status);
+    expect_bytes(rt, alloc, ("err", words), answer.err.taken(), case.err)?;
+    let out = answer.out.taken();
+    if by.any_order {
+        expect_lines(rt, alloc, ("out", words), out, case.out)?;
+    } else {
+        expect_bytes(rt, alloc, ("out", words), out, case.out)?;
+    }
+    if by.stored.is_empty() {
+        return Ok(());
+    }
+    let held = answer.files.content(by.stored).unwrap_or(b"");
+    expect_lines(rt, alloc, (by.stored, words), held, case.stored)
+}
+
+fn expect_status(rt: &impl Abort, words: &[String], found: u8, want: u8) {
+    assert_eq!(rt; found, want, "{words:?}");
+}
+
+// These bytes are those that are wanted, at this place of the call with these words.
+fn expect_same(rt: &impl Abort, place: (&str, &[String]), found: &[u8], want: &[u8]) {
+    assert_eq!(rt; found, want, "{place:?}");
+}
+
+// These bytes are what stands in a column.
+fn expect_bytes(
+    rt: &impl Abort,
+    alloc: Global,
+    place: (&str, &[String]),
+    found: &[u8],
+    column: &str,
+) -> Result<(), Fail> {
+    let want = text_of(alloc, column)?;
+    expect_same(rt, place, found, want.as_bytes());
+    Ok(())
+}
+
+// These lines are those in a column, in any order.
+fn expect_lines(
+    rt: &impl Abort,
+    alloc: Global,
+    place: (&str, &[String]),
+    found: &[u8],
+    column: &str,
+) -> Result<(), Fail> {
+    let found = sorted(alloc, found)?;
+    let want = text_of(alloc, column)?;
+    let want = sorted(alloc, want.as_bytes())?;
+    expect_same(rt, place, found.as_bytes(), want.as_bytes());
+    Ok(())
+}
+
+// A text with its lines in order.
+fn sorted(alloc: Global, text: &[u8]) -> Result<String, Fail> {
+    let mut lines = Vec::new(alloc);
+    for line in str::from_utf8(text)?.split('\n') {
+        lines.push(line)?;
+    }
     lines.sort()?;
-    Ok(lines)
+    Ok(joined(alloc, &lines)?)
+}
+
+// These lines, each with its end.
+fn joined(alloc: Global, lines: &[&str]) -> Result<String, AllocError> {
+    let mut text = String::new(alloc);
+    for line in lines {
+        text.push_str(line)?;
+        text.push('\n')?;
+    }
+    Ok(text)
 }
 
 #[test]
@@ -225,7 +268,7 @@ fn commands_by_tables(rt: HostRuntime) -> Result<(), Fail> {
 
 #[test]
 fn networks_by_tables(rt: HostRuntime) -> Result<(), Fail> {
-    check_networks(&rt, rt.alloc(), networks::ORDERED, false)?;
-    check_networks(&rt, rt.alloc(), networks::ANY_ORDER, true)?;
-    check_networks(&rt, rt.alloc(), networks::BEYOND, false)
+    check_twice(&rt, rt.alloc(), networks::ORDERED, SOUND)?;
+    check_twice(&rt, rt.alloc(), networks::ANY_ORDER, ANY_ORDER)?;
+    check_twice(&rt, rt.alloc(), networks::BEYOND, SOUND)
 }

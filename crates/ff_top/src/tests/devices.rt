@@ -1,5 +1,10 @@
 // Devices that fail, and sources that give few bytes at a time.
-use super::{SOUND, Setting, Want, check, check_table};
+ghost use Rattle.std.specs.Prelude.{◌<◌};
+
+use super::{SOUND, Setting, call, check_table, expect_same, expect_status};
+use crate::tests::cases::{case_of, words_of};
+use std::alloc::Global;
+use std::process::Abort;
 use std::test::Fail;
 
 // Calls whose second read fails: what is due for the whole lines before it was written.
@@ -54,6 +59,24 @@ fn devices_by_tables(rt: HostRuntime) -> Result<(), Fail> {
     Ok(())
 }
 
+// What `add 1 1` is to answer to three lines.
+#[derive(Clone, Copy)]
+struct Want<'a> {
+    status: u8,
+    out: &'a [u8],
+    err: &'a [u8],
+}
+
+// Makes the call with these devices, and compares.
+fn check_three(rt: &impl Abort, alloc: Global, by: Setting, want: Want) -> Result<(), Fail> {
+    let words = words_of(alloc, case_of("run 'add 1 1' | | 0 | |")?)?;
+    let answer = call(rt, alloc, &words, b"1\n2\n3\n", by)?;
+    expect_status(rt, &words, answer.status, want.status);
+    expect_same(rt, ("out", &words), answer.out.taken(), want.out);
+    expect_same(rt, ("err", &words), answer.err.taken(), want.err);
+    Ok(())
+}
+
 #[test]
 fn each_read_fails(rt: HostRuntime) -> Result<(), Fail> {
     for fails in 1..8 {
@@ -68,29 +91,35 @@ fn each_read_fails(rt: HostRuntime) -> Result<(), Fail> {
             fails,
             ..SOUND
         };
-        check(&rt, rt.alloc(), &["run", "add 1 1"], b"1\n2\n3\n", by, want)?;
+        check_three(&rt, rt.alloc(), by, want)?;
     }
     Ok(())
 }
 
+// The output takes the first bytes, and `short` of them at once.
+fn check_budget(rt: &impl Abort, alloc: Global, short: usize, out: usize) -> Result<(), Fail>
+    requires { out < 7 }
+{
+    let whole = b"2\n3\n4\n";
+    let done = out == whole.len();
+    let want = Want {
+        status: if done { 0 } else { 4 },
+        out: &whole[..out],
+        err: if done { b"" } else { b"ffrun: write fault\n" },
+    };
+    let by = Setting {
+        out,
+        short,
+        ..SOUND
+    };
+    check_three(rt, alloc, by, want)
+}
+
 #[test]
 fn each_budget_of_the_output(rt: HostRuntime) -> Result<(), Fail> {
-    let whole = b"2\n3\n4\n";
-    for short in [1, 200_000] {
-        for out in 0..7 {
-            let done = out == whole.len();
-            let want = Want {
-                status: if done { 0 } else { 4 },
-                out: &whole[..out],
-                err: if done { b"" } else { b"ffrun: write fault\n" },
-            };
-            let by = Setting {
-                out,
-                short,
-                ..SOUND
-            };
-            check(&rt, rt.alloc(), &["run", "add 1 1"], b"1\n2\n3\n", by, want)?;
-        }
+    for out in 0..7 {
+        check_budget(&rt, rt.alloc(), 1, out)?;
+        check_budget(&rt, rt.alloc(), 200_000, out)?;
     }
     Ok(())
 }

@@ -1,8 +1,5 @@
 // Rejected records that are stored in a file.
-use super::{Answer, SOUND, Setting, call, expect_told, sorted_lines};
-use crate::tests::cases::{Case, cases_of};
-use std::alloc::Global;
-use std::process::Abort;
+use super::{SOUND, Setting, check_table};
 use std::test::Fail;
 
 // Calls that store what they reject, with a sixth column: the lines of the file, which may come in any order.
@@ -49,59 +46,25 @@ run --rejects net.txt -f other.txt | x\n1\n | 4 |  | ffrun: cannot read other.tx
 run --rejects other.txt 'skip 9' | x\n1\n | 0 |  |  | as before\n
 "#;
 
-// Makes the calls of a table of six columns, and compares, the file `name` too. It is an error where it isn't there and lines
-// are to stand in it.
-fn check_files(
-    rt: &impl Abort,
-    alloc: Global,
-    table: &str,
-    name: &str,
-    by: Setting,
-) -> Result<(), Fail> {
-    for case in cases_of(rt, alloc, table)? {
-        let answer = call(rt, alloc, &case.words, &case.input, by)?;
-        assert_eq!(rt; answer.out(), case.out.as_slice(), "out, {:?}", case.words);
-        expect_told(rt, &case, &answer);
-        expect_file(rt, alloc, &case, &answer, name)?;
-    }
-    Ok(())
-}
-
-fn expect_file(
-    rt: &impl Abort,
-    alloc: Global,
-    case: &Case,
-    answer: &Answer,
-    name: &str,
-) -> Result<(), Fail> {
-    let held = answer.files.content(name).unwrap_or(b"");
-    let lines = sorted_lines(alloc, held)?;
-    assert_eq!(rt;
-        lines,
-        sorted_lines(alloc, &case.stored)?,
-        "{name}, {:?}",
-        case.words
-    );
-    Ok(())
-}
-
 #[test]
 fn files_of_rejects(rt: HostRuntime) -> Result<(), Fail> {
     let alloc = rt.alloc();
-    let file = b"as before\n";
-    let before = Setting { file, ..SOUND };
-    check_files(&rt, alloc, STORED, "bad.txt", before)?;
-    let text = Setting {
-        file: b"add 1 1",
+    let bad = Setting {
+        stored: "bad.txt",
         ..SOUND
     };
-    check_files(&rt, alloc, OVER_THE_TEXT, "net.txt", text)?;
-    let read = Setting { fails: 2, ..SOUND };
-    check_files(&rt, alloc, SECOND_READ_FAILS, "bad.txt", read)?;
-    let store = Setting { load: 1, ..SOUND };
-    check_files(&rt, alloc, STORE_FAILS, "bad.txt", store)?;
-    let both = Setting { fails: 2, ..store };
-    check_files(&rt, alloc, BOTH_FAIL, "bad.txt", both)?;
-    let full = Setting { out: 1, ..before };
-    check_files(&rt, alloc, NOTHING_STORED, "net.txt", full)
+    let net = Setting {
+        stored: "net.txt",
+        ..SOUND
+    };
+    let file = b"as before\n";
+    check_table(&rt, alloc, STORED, Setting { file, ..bad })?;
+    let text = b"add 1 1";
+    check_table(&rt, alloc, OVER_THE_TEXT, Setting { file: text, ..net })?;
+    check_table(&rt, alloc, SECOND_READ_FAILS, Setting { fails: 2, ..bad })?;
+    let store = Setting { load: 1, ..bad };
+    check_table(&rt, alloc, STORE_FAILS, store)?;
+    check_table(&rt, alloc, BOTH_FAIL, Setting { fails: 2, ..store })?;
+    let full = Setting { out: 1, ..net };
+    check_table(&rt, alloc, NOTHING_STORED, Setting { file, ..full })
 }

@@ -1,6 +1,6 @@
 // Texts in words and in files: printed forms, and what is said of texts that are no network's.
-use super::{SOUND, Setting, Want, call, check, check_case, check_table, words_behind};
-use crate::tests::cases::cases_of;
+use super::{Answer, SOUND, Setting, call, check_case, check_table, check_twice};
+use crate::tests::cases::{Case, case_of, is_call, text_of, words_of};
 use std::alloc::Global;
 use std::process::Abort;
 use std::test::Fail;
@@ -16,6 +16,27 @@ check 'a2a 1(id)rr 1(id)' |  | 0 | a2a 1 (id) rr 1 (id)\n |
 check 'wrap 2(halve 1)if 1>-01' |  | 0 | wrap 2 (halve 1) if 1 > -1\n |
 check 'pipe(set 2 " x,y # ",if 1<=-5,farm 2 od(pipe(id)))' |  | 0 | pipe(set 2 " x,y # ", if 1 <= -5, farm 2 od (pipe(id)))\n |
 check 'skip 0' |  | 0 | skip 0\n |
+check '\[15 pipe(]id\[15 )]' |  | 0 | \[15 pipe(]id\[15 )]\n |
+"#;
+
+// Texts that are too deep or too long. An unknown name at the depth of 16 isn't too deep, and no form fits a deeper one.
+const DEEP_OR_LONG: &str = r#"
+check '\[16 pipe(]id\[16 )]' | 1\n | 2 |  | ffrun: byte 75: too deep\n
+run '\[16 pipe(]id\[16 )]' | 1\n | 2 |  | ffrun: byte 75: too deep\n
+check '\[16 farm 1 rr (]id\[16 )]' | 1\n | 2 |  | ffrun: byte 165: too deep\n
+run '\[16 farm 1 rr (]id\[16 )]' | 1\n | 2 |  | ffrun: byte 165: too deep\n
+check '\[16 comb(]id\[16 )]' | 1\n | 2 |  | ffrun: byte 75: too deep\n
+run '\[16 comb(]id\[16 )]' | 1\n | 2 |  | ffrun: byte 75: too deep\n
+check '\[16 a2a 1 (id) od 1 (]id\[16 )]' | 1\n | 2 |  | ffrun: byte 255: too deep\n
+run '\[16 a2a 1 (id) od 1 (]id\[16 )]' | 1\n | 2 |  | ffrun: byte 255: too deep\n
+check '\[16 pipe(]nothing\[16 )]' | 1\n | 2 |  | ffrun: byte 75: too deep\n
+run '\[16 pipe(]nothing\[16 )]' | 1\n | 2 |  | ffrun: byte 75: too deep\n
+check '\[15 pipe(]nothing\[15 )]' | 1\n | 2 |  | ffrun: byte 75: unknown name\n
+run '\[15 pipe(]nothing\[15 )]' | 1\n | 2 |  | ffrun: byte 75: unknown name\n
+check '\[65536 (]' | 1\n | 2 |  | ffrun: byte 0: unexpected token\n
+run '\[65536 (]' | 1\n | 2 |  | ffrun: byte 0: unexpected token\n
+check '\[65534  ]id ' | 1\n | 2 |  | ffrun: text too long\n
+run '\[65534  ]id ' | 1\n | 2 |  | ffrun: text too long\n
 "#;
 
 // Texts that are no network, or break a rule.
@@ -110,17 +131,30 @@ const LONG_FILES: &str = "run -f net.txt | a | 2 |  | ffrun: text too long\\n";
 // Devices whose first read fails, so that a call that reads ends with another status.
 const UNREAD: Setting = Setting { fails: 1, ..SOUND };
 
-// `check` and `run` both refuse a text with this message, and read nothing.
-fn expect_refused(rt: &impl Abort, alloc: Global, text: &str, err: &[u8]) -> Result<(), Fail> {
-    let want = Want {
-        status: 2,
-        out: b"",
-        err,
-    };
-    for verb in ["check", "run"] {
-        check(rt, alloc, &[verb, text], b"1\n", UNREAD, want)?;
-    }
-    Ok(())
+// Makes the calls of a table with the file `net.txt`, whose text stands as in a table, and compares.
+fn check_file(
+    rt: &impl Abort,
+    alloc: Global,
+    table: &str,
+    file: &str,
+    by: Setting,
+) -> Result<(), Fail> {
+    let text = text_of(alloc, file)?;
+    let file = text.as_bytes();
+    check_table(rt, alloc, table, Setting { file, ..by })
+}
+
+// What is printed is itself printed so.
+fn check_printed(rt: &impl Abort, alloc: Global, case: Case) -> Result<(), Fail> {
+    let text = text_of(alloc, case.out)?;
+    let file = text.as_bytes();
+    let words = "-f net.txt";
+    check_case(
+        rt,
+        alloc,
+        Case { words, ..case },
+        Setting { file, ..UNREAD },
+    )
 }
 
 #[test]
@@ -128,23 +162,12 @@ fn texts_by_tables(rt: HostRuntime) -> Result<(), Fail> {
     let alloc = rt.alloc();
     check_table(&rt, alloc, BLANKS, SOUND)?;
     check_table(&rt, alloc, PRINTED, UNREAD)?;
-    for mut case in cases_of(&rt, alloc, REFUSED)? {
-        check_case(&rt, alloc, &case, UNREAD)?;
-        case.words = words_behind(alloc, "run", "--one", &case.words)?;
-        check_case(&rt, alloc, &case, UNREAD)?;
-    }
-    // What is printed is itself printed so.
-    for case in cases_of(&rt, alloc, PRINTED)? {
-        let by = Setting {
-            file: &case.out,
-            ..UNREAD
-        };
-        let want = Want {
-            status: 0,
-            out: &case.out,
-            err: b"",
-        };
-        check(&rt, alloc, &["check", "-f", "net.txt"], b"", by, want)?;
+    check_table(&rt, alloc, DEEP_OR_LONG, UNREAD)?;
+    check_twice(&rt, alloc, REFUSED, UNREAD)?;
+    for line in PRINTED.lines() {
+        if is_call(line) {
+            check_printed(&rt, alloc, case_of(line)?)?;
+        }
     }
     Ok(())
 }
@@ -152,119 +175,33 @@ fn texts_by_tables(rt: HostRuntime) -> Result<(), Fail> {
 #[test]
 fn texts_of_files(rt: HostRuntime) -> Result<(), Fail> {
     let alloc = rt.alloc();
-    let file = b"neg 1 # sign\n";
-    check_table(&rt, alloc, FILES, Setting { file, ..SOUND })?;
+    check_file(&rt, alloc, FILES, "neg 1 # sign\\n", SOUND)?;
     let by = Setting { load: 1, ..SOUND };
-    check_table(&rt, alloc, FAILING_FILES, by)?;
+    check_file(&rt, alloc, FAILING_FILES, "", by)?;
     // A text may have 65,536 bytes.
-    let mut file = vec![in alloc; b' '; 65_534]?;
-    file.extend_from_slice(b"id")?;
-    let by = Setting {
-        file: &file,
-        ..SOUND
-    };
-    check_table(&rt, alloc, FULL_FILES, by)?;
-    file.push(b' ')?;
-    let by = Setting {
-        file: &file,
-        ..SOUND
-    };
-    check_table(&rt, alloc, LONG_FILES, by)?;
-    let text = String::from_utf8(file).map_err(|_| "no text")?;
-    expect_refused(&rt, alloc, text.as_str(), b"ffrun: text too long\n")
+    check_file(&rt, alloc, FULL_FILES, "\\[65534  ]id", SOUND)?;
+    check_file(&rt, alloc, LONG_FILES, "\\[65534  ]id ", SOUND)
 }
 
-// A text between others, many times.
-fn nested(
-    alloc: Global,
-    front: &str,
-    times: usize,
-    middle: &str,
-    back: &str,
-) -> Result<String, Fail> {
-    let mut text = String::new(alloc);
-    for _ in 0..times {
-        text.push_str(front)?;
-    }
-    text.push_str(middle)?;
-    for _ in 0..times {
-        text.push_str(back)?;
-    }
-    Ok(text)
+// Runs what stands in a file.
+fn run_file(rt: &impl Abort, alloc: Global, file: &[u8]) -> Result<Answer, Fail> {
+    let words = words_of(alloc, case_of(FULL_FILES)?)?;
+    call(rt, alloc, &words, b"1\n", Setting { file, ..UNREAD })
 }
 
-#[test]
-fn deep_and_long_texts(rt: HostRuntime) -> Result<(), Fail> {
-    let alloc = rt.alloc();
-    // An unknown name at the depth of 16 isn't too deep, and no form fits a deeper one.
-    for (form, times, leaf, end, err) in [
-        ("pipe(", 16, "id", ")", "ffrun: byte 75: too deep\n"),
-        ("farm 1 rr (", 16, "id", ")", "ffrun: byte 165: too deep\n"),
-        ("comb(", 16, "id", ")", "ffrun: byte 75: too deep\n"),
-        (
-            "a2a 1 (id) od 1 (",
-            16,
-            "id",
-            ")",
-            "ffrun: byte 255: too deep\n",
-        ),
-        ("pipe(", 16, "nothing", ")", "ffrun: byte 75: too deep\n"),
-        (
-            "pipe(",
-            15,
-            "nothing",
-            ")",
-            "ffrun: byte 75: unknown name\n",
-        ),
-        ("(", 65_536, "", "", "ffrun: byte 0: unexpected token\n"),
-    ] {
-        let text = nested(alloc, form, times, leaf, end)?;
-        expect_refused(&rt, alloc, text.as_str(), err.as_bytes())?;
-    }
-    let text = nested(alloc, "pipe(", 15, "id", ")")?;
-    let line = nested(alloc, "pipe(", 15, "id", ")")?;
-    let mut line = line.into_bytes();
-    line.push(b'\n')?;
-    let want = Want {
-        status: 0,
-        out: &line,
-        err: b"",
-    };
-    check(&rt, alloc, &["check", text.as_str()], b"", UNREAD, want)?;
-    Ok(())
-}
-
-#[test]
-fn pipelines_of_64_and_65_parts(rt: HostRuntime) -> Result<(), Fail> {
-    let alloc = rt.alloc();
-    for (more, status, out, err) in [
-        (62, 0, b"63\n".as_slice(), b"".as_slice()),
-        (63, 2, b"", b"ffrun: rule N2 at top\n"),
-    ] {
-        let mut text = String::from_str(alloc, "pipe(add 1 1")?;
-        text.push_str(nested(alloc, ", add 1 1", more, ", id)", "")?.as_str())?;
-        let want = Want { status, out, err };
-        check(&rt, alloc, &["run", text.as_str()], b"0\n", SOUND, want)?;
-    }
-    Ok(())
+// Each prefix may go on, so that its end is what is told, but for one that ends within a word.
+fn expect_refused(rt: &impl Abort, answer: &Answer, len: usize) {
+    let place = answer.err.taken().starts_with(b"ffrun: byte ");
+    let refused = answer.status == 2 && answer.out.taken().is_empty() && place;
+    assert!(rt; refused, "{len} bytes");
 }
 
 #[test]
 fn each_proper_prefix_is_refused(rt: HostRuntime) -> Result<(), Fail> {
-    let alloc = rt.alloc();
     let text = b"pipe(add 1 5, farm 2 rr (id))";
-    for case in cases_of(&rt, alloc, FULL_FILES)? {
-        for len in 0..text.len() {
-            let by = Setting {
-                file: &text[..len],
-                ..UNREAD
-            };
-            let answer = call(&rt, alloc, &case.words, b"1\n", by)?;
-            assert_eq!(&rt; answer.status, 2, "{len} bytes");
-            assert_eq!(&rt; answer.out(), b"".as_slice(), "{len} bytes");
-            // Each prefix may go on, so that its end is what is told, but for one that ends within a word.
-            assert!(&rt; answer.err().starts_with(b"ffrun: byte "), "{len} bytes");
-        }
+    for len in 0..text.len() {
+        let answer = run_file(&rt, rt.alloc(), &text[..len])?;
+        expect_refused(&rt, &answer, len);
     }
     Ok(())
 }
