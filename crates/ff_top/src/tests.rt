@@ -4,9 +4,12 @@ ghost use Rattle.std.specs.Prelude.{◌≤◌};
 use crate::{Devices, ffrun};
 use cases::{Case, case_of, is_call, text_of, words_of};
 use ff_io::{MemFiles, MemSink, MemSource, ShortSink};
+use ff_spawn::{RefuseAt, Threads};
 use std::alloc::{AllocError, Global};
 use std::process::Abort;
+use std::sync::Wait;
 use std::test::Fail;
+use std::thread;
 
 mod cases;
 mod commands;
@@ -19,11 +22,12 @@ mod operations;
 mod rec_calls;
 mod rejects;
 mod texts;
+mod threads;
 
 // How the devices of a call behave: what the file `net.txt` holds, the call of the files that fails, the most that a read
-// gives, the read that fails (calls are counted from 1), what the sinks take in all, and the output at once. And how its
-// answer is compared: whether the lines of the output may come in any order, and the file, if any, that stands in the last
-// column, whose lines always may.
+// gives, the read that fails (calls are counted from 1), what the sinks take in all, and the output at once, and the start of
+// a thread that is refused. And how its answer is compared: whether the lines of the output may come in any order, and the
+// file, if any, that stands in the last column, whose lines always may.
 #[derive(Clone, Copy)]
 struct Setting<'a> {
     file: &'a [u8],
@@ -33,6 +37,7 @@ struct Setting<'a> {
     out: usize,
     err: usize,
     short: usize,
+    refuse: u64,
     any_order: bool,
     stored: &'a str,
 }
@@ -46,6 +51,7 @@ const SOUND: Setting = Setting {
     out: 200_000,
     err: 100,
     short: 200_000,
+    refuse: 0,
     any_order: false,
     stored: "",
 };
@@ -55,8 +61,13 @@ const ANY_ORDER: Setting = Setting {
     ..SOUND
 };
 
-// The devices of a call, in memory.
-type Made = Devices<MemFiles, MemSource, ShortSink<MemSink>, MemSink>;
+// A runtime by which a test calls.
+trait Host: thread::Threads + Wait + Abort + Clone + Drop + Send + 'static {}
+
+impl<R: thread::Threads + Wait + Abort + Clone + Drop + Send + 'static> Host for R {}
+
+// The devices of a call, in memory, and a spawner of real threads.
+type Made<R> = Devices<MemFiles, MemSource, ShortSink<MemSink>, MemSink, RefuseAt<Threads<R>>>;
 
 // What a call answered, and its devices behind it.
 #[derive(Drop)]
@@ -69,25 +80,27 @@ struct Answer {
 }
 
 // Makes the call.
-fn call(
-    rt: &impl Abort,
+fn call<R: Host>(
+    rt: &R,
     alloc: Global,
     words: &[String],
     input: &[u8],
     by: Setting,
 ) -> Result<Answer, Fail> {
     assert!(rt; 1 <= by.most && 1 <= by.short);
-    let mut devices = make_devices(alloc, input, by)?;
-    let status = ffrun(alloc, words, &mut devices);
+    let spawner = make_spawner(rt, alloc, by.refuse)?;
+    let mut devices = make_devices(alloc, input, by, spawner)?;
+    let status = ffrun(rt, alloc, words, &mut devices);
     Ok(answered(status, devices))
 }
 
-fn answered(status: u8, devices: Made) -> Answer {
+fn answered<R: Host>(status: u8, devices: Made<R>) -> Answer {
     let Devices {
         files,
         input,
         out,
         err,
+        ..
     } = devices;
     let out = out.into_inner();
     Answer {
@@ -100,7 +113,12 @@ fn answered(status: u8, devices: Made) -> Answer {
 }
 
 // The devices of a call. The second write to the sink of messages fails, so that only a message of one write is whole.
-fn make_devices(alloc: Global, input: &[u8], by: Setting) -> Result<Made, Fail>
+fn make_devices<R: Host>(
+    alloc: Global,
+    input: &[u8],
+    by: Setting,
+    spawner: RefuseAt<Threads<R>>,
+) -> Result<Made<R>, Fail>
     requires most { 1 ≤ by.most }
     requires short { 1 ≤ by.short }
 {
@@ -113,7 +131,17 @@ fn make_devices(alloc: Global, input: &[u8], by: Setting) -> Result<Made, Fail>
         ),
         out: ShortSink::new(MemSink::new(alloc, by.out, Vec::new(alloc))?, by.short),
         err: MemSink::new(alloc, by.err, vec![in alloc; 2]?)?,
+        spawner,
     })
+}
+
+fn make_spawner<R: Host>(
+    rt: &R,
+    alloc: Global,
+    refuse: u64,
+) -> Result<RefuseAt<Threads<R>>, AllocError> {
+    let threads = Threads::new(rt.clone()?);
+    Ok(RefuseAt::new(threads, vec![in alloc; refuse]?))
 }
 
 // The files of a call.
@@ -131,7 +159,7 @@ fn make_file(alloc: Global, content: &[u8]) -> Result<(String, Vec<u8>), AllocEr
 }
 
 // Makes the calls of a table, and compares.
-fn check_table(rt: &impl Abort, alloc: Global, table: &str, by: Setting) -> Result<(), Fail> {
+fn check_table<R: Host>(rt: &R, alloc: Global, table: &str, by: Setting) -> Result<(), Fail> {
     let mut tried = false;
     for line in table.lines() {
         if is_call(line) {
@@ -144,7 +172,7 @@ fn check_table(rt: &impl Abort, alloc: Global, table: &str, by: Setting) -> Resu
 }
 
 // Makes the calls of a table, each as `run --one` too, and compares.
-fn check_twice(rt: &impl Abort, alloc: Global, table: &str, by: Setting) -> Result<(), Fail> {
+fn check_twice<R: Host>(rt: &R, alloc: Global, table: &str, by: Setting) -> Result<(), Fail> {
     check_table(rt, alloc, table, by)?;
     for line in table.lines() {
         if is_call(line) {
@@ -155,21 +183,21 @@ fn check_twice(rt: &impl Abort, alloc: Global, table: &str, by: Setting) -> Resu
 }
 
 // Makes the call of a case as `run --one`, whatever its first word is, and compares.
-fn check_one(rt: &impl Abort, alloc: Global, case: Case, by: Setting) -> Result<(), Fail> {
+fn check_one<R: Host>(rt: &R, alloc: Global, case: Case, by: Setting) -> Result<(), Fail> {
     let verb = "run --one";
     check_case(rt, alloc, Case { verb, ..case }, by)
 }
 
 // Makes the call of a case, and compares.
-fn check_case(rt: &impl Abort, alloc: Global, case: Case, by: Setting) -> Result<(), Fail> {
+fn check_case<R: Host>(rt: &R, alloc: Global, case: Case, by: Setting) -> Result<(), Fail> {
     let words = words_of(alloc, case)?;
     let answer = answer_of(rt, alloc, &words, case.input, by)?;
     expect_case(rt, alloc, &words, &answer, case, by)
 }
 
 // What the call answers on an input that stands so in a table.
-fn answer_of(
-    rt: &impl Abort,
+fn answer_of<R: Host>(
+    rt: &R,
     alloc: Global,
     words: &[String],
     input: &str,

@@ -1,10 +1,9 @@
 // Devices that fail, and sources that give few bytes at a time.
 ghost use Rattle.std.specs.Prelude.{◌<◌};
 
-use super::{SOUND, Setting, call, check_table, expect_same, expect_status};
+use super::{Host, SOUND, Setting, call, check_table, expect_same, expect_status};
 use crate::tests::cases::{case_of, words_of};
 use std::alloc::Global;
-use std::process::Abort;
 use std::test::Fail;
 
 // Calls whose second read fails: what is due for the whole lines before it was written.
@@ -68,7 +67,7 @@ struct Want<'a> {
 }
 
 // Makes the call with these devices, and compares.
-fn check_three(rt: &impl Abort, alloc: Global, by: Setting, want: Want) -> Result<(), Fail> {
+fn check_three<R: Host>(rt: &R, alloc: Global, by: Setting, want: Want) -> Result<(), Fail> {
     let words = words_of(alloc, case_of("run 'add 1 1' | | 0 | |")?)?;
     let answer = call(rt, alloc, &words, b"1\n2\n3\n", by)?;
     expect_status(rt, &words, answer.status, want.status);
@@ -97,7 +96,7 @@ fn each_read_fails(rt: HostRuntime) -> Result<(), Fail> {
 }
 
 // The output takes the first bytes, and `short` of them at once.
-fn check_budget(rt: &impl Abort, alloc: Global, short: usize, out: usize) -> Result<(), Fail>
+fn check_budget<R: Host>(rt: &R, alloc: Global, short: usize, out: usize) -> Result<(), Fail>
     requires { out < 7 }
 {
     let whole = b"2\n3\n4\n";

@@ -1,5 +1,5 @@
 // Texts in words and in files: printed forms, and what is said of texts that are no network's.
-use super::{Answer, SOUND, Setting, call, check_case, check_table, check_twice};
+use super::{Answer, Host, SOUND, Setting, call, check_case, check_table, check_twice};
 use crate::tests::cases::{Case, case_of, is_call, text_of, words_of};
 use std::alloc::Global;
 use std::process::Abort;
@@ -132,8 +132,8 @@ const LONG_FILES: &str = "run -f net.txt | a | 2 |  | ffrun: text too long\\n";
 const UNREAD: Setting = Setting { fails: 1, ..SOUND };
 
 // Makes the calls of a table with the file `net.txt`, whose text stands as in a table, and compares.
-fn check_file(
-    rt: &impl Abort,
+fn check_file<R: Host>(
+    rt: &R,
     alloc: Global,
     table: &str,
     file: &str,
@@ -145,7 +145,7 @@ fn check_file(
 }
 
 // What is printed is itself printed so.
-fn check_printed(rt: &impl Abort, alloc: Global, case: Case) -> Result<(), Fail> {
+fn check_printed<R: Host>(rt: &R, alloc: Global, case: Case) -> Result<(), Fail> {
     let text = text_of(alloc, case.out)?;
     let file = text.as_bytes();
     let words = "-f net.txt";
@@ -184,7 +184,7 @@ fn texts_of_files(rt: HostRuntime) -> Result<(), Fail> {
 }
 
 // Runs what stands in a file.
-fn run_file(rt: &impl Abort, alloc: Global, file: &[u8]) -> Result<Answer, Fail> {
+fn run_file<R: Host>(rt: &R, alloc: Global, file: &[u8]) -> Result<Answer, Fail> {
     let words = words_of(alloc, case_of(FULL_FILES)?)?;
     call(rt, alloc, &words, b"1\n", Setting { file, ..UNREAD })
 }
