@@ -1,15 +1,29 @@
 // Networks by threads: rings of each size, starts that are refused, and what needs no thread.
-use super::{ANY_ORDER, SOUND, Setting, check_table};
+use super::{ANY_ORDER, Host, SOUND, Setting, check_case, check_table};
+use crate::tests::cases::{Case, case_of, is_call};
 use crate::tests::flowing::check_left;
+use std::alloc::Global;
 use std::test::Fail;
 
-// A pipe of six units, over rings of these sizes.
-const SIZES: &str = r#"
-run --cap 1 'pipe(words 1, add 1 1, comb(mul 1 2, neg 1), pipe(id, id), id)' | \[200 1 2\nx\n] | 0 | \[200 -4\n-6\n] | ffrun: 200 rejected\n
-run --cap 2 'pipe(words 1, add 1 1, comb(mul 1 2, neg 1), pipe(id, id), id)' | \[200 1 2\nx\n] | 0 | \[200 -4\n-6\n] | ffrun: 200 rejected\n
-run --cap 64 'pipe(words 1, add 1 1, comb(mul 1 2, neg 1), pipe(id, id), id)' | \[200 1 2\nx\n] | 0 | \[200 -4\n-6\n] | ffrun: 200 rejected\n
-run --cap 512 'pipe(words 1, add 1 1, comb(mul 1 2, neg 1), pipe(id, id), id)' | \[2000 1 2\nx\n] | 0 | \[2000 -4\n-6\n] | ffrun: 2000 rejected\n
-run --cap 4096 'pipe(words 1, add 1 1, comb(mul 1 2, neg 1), pipe(id, id), id)' | \[6000 1 2\nx\n] | 0 | \[6000 -4\n-6\n] | ffrun: 6000 rejected\n
+// Runs with rings of each size.
+const SIZES: [&str; 5] = [
+    "run --cap 1",
+    "run --cap 2",
+    "run --cap 64",
+    "run --cap 512",
+    "run --cap 4096",
+];
+
+// Lines of units. The first has six, and more records than the largest rings hold.
+const LINES: &str = r#"
+run 'pipe(words 1, add 1 1, comb(mul 1 2, neg 1), pipe(id, id), id)' | \[6000 1 2\nx\n] | 0 | \[6000 -4\n-6\n] | ffrun: 6000 rejected\n
+// Nodes that end by themselves, at the front, in the middle and at the end.
+run 'pipe(take 2, add 1 1, id)' | \[2000 1\nx\n] | 0 | 2\n | ffrun: 1 rejected\n
+run 'pipe(add 1 1, comb(id, take 2), id)' | \[2000 1\nx\n] | 0 | 2\n2\n | ffrun: 2000 rejected\n
+run 'pipe(add 1 1, id, take 2)' | \[2000 1\nx\n] | 0 | 2\n2\n | ffrun: 2000 rejected\n
+run 'pipe(take 3, take 2, take 1)' | 1\n2\n3\n4\n | 0 | 1\n |
+// Nodes that send at the end.
+run 'pipe(total 1, add 1 1, tally)' | \[2000 1\nx\n] | 0 | 1\n | ffrun: 2000 rejected\n
 "#;
 
 // Calls of three units, of which one isn't started. Nothing is stored.
@@ -30,7 +44,21 @@ check 'pipe(id, id)' |  | 0 | pipe(id, id)\n |
 
 #[test]
 fn rings_of_each_size(rt: HostRuntime) -> Result<(), Fail> {
-    check_table(&rt, rt.alloc(), SIZES, SOUND)
+    for verb in SIZES {
+        check_lines(&rt, rt.alloc(), verb)?;
+    }
+    Ok(())
+}
+
+// Makes the calls of the lines with these first words, and compares.
+fn check_lines<R: Host>(rt: &R, alloc: Global, verb: &str) -> Result<(), Fail> {
+    for line in LINES.lines() {
+        if is_call(line) {
+            let case = case_of(line)?;
+            check_case(rt, alloc, Case { verb, ..case }, SOUND)?;
+        }
+    }
+    Ok(())
 }
 
 // The next read gives the whole input.
