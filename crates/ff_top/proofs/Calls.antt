@@ -1,4 +1,4 @@
--- What is answered where no count of faults rose, and which status comes with which answer.
+-- What is answered where no count of faults or refused starts rose, and which status comes with which answer.
 use Rattle.std.proofs.Common.{◌≡◌, ℕ, ◌≤◌, List, [], ◌∷◌, ◌++◌, Option, None, Some, IfSome, IsSome, IsSomeAnd, refl, sym, ap, subst, ◌∙◌, inl, inr, append-nil, arith}
 use Rattle.std.specs.Prelude.{◌⊎◌, Bool, true, is_some, option_and_then, Contains, Result, Ok, Err}
 use Rattle.std.specs.Io.KnownBytes.{Consumes, IsAtEnd}

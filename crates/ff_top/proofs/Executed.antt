@@ -2,7 +2,7 @@
 use Rattle.std.proofs.Common.{◌≡◌, ℕ, List, Option, None, Some, IsSome, IsSomeAnd, refl, sym, ap, subst, ◌∙◌, inl, inr}
 use Rattle.std.specs.Prelude.{Bool, Result, Ok, Err, option_and_then}
 use Rattle.std.proofs.KnownBytes.{Keeps-refl}
-use Rattle.ff_io.specs.FileLaws.{KeepsAll-refl, KeepsAll-trans, KeepsOthers-trans, KeepsOthers-from_KeepsAll}
+use Rattle.ff_io.specs.FileLaws.{KeepsAll-trans, KeepsOthers-trans, KeepsOthers-from_KeepsAll}
 use Rattle.ff_io.specs.Files.{Holdings, KeepsAll, KeepsOthers}
 use Rattle.ff_net.specs.Tree.{Tree}
 use Rattle.ff_ops.specs.Operation.{OpState}
@@ -13,7 +13,7 @@ use Rattle.ff_top.specs.Commands.{DoneWith, given_to}
 use Rattle.ff_top.specs.Endings.{Did, Comes, Counts, description}
 use Rattle.ff_top.specs.Outside.{Outside, IsUntouched}
 use Rattle.ff_top.specs.Running.{KeepsBut, Stored, HasStored, Ran, RunCounts, run_files}
-use Rattle.ff_top.specs.Working.{Handled, Worked, IsBuilt, IsUnbuilt}
+use Rattle.ff_top.specs.Working.{Handled, Worked}
 use Rattle.ff_top.specs.declared.fault.Fault.{Fault}
 use Rattle.ff_top.specs.declared.fault.Fault.TheVariants as fault
 use Rattle.ff_top.specs.declared.run_cause.RunCause.{RunCause}

@@ -1,7 +1,6 @@
 -- How a run ends, from how its network answered and how the file for the rejected records did.
 use Rattle.std.proofs.Common.{◌≡◌, ℕ, List, [], Option, None, Some, refl, sym, ap, subst, ◌∙◌, inl, inr, append-nil}
-use Rattle.std.specs.Prelude.{◌⊎◌, Bool, true, Result, Ok, Err}
-use Rattle.ff_rec.specs.Counts.{more}
+use Rattle.std.specs.Prelude.{Bool, true, Result, Ok, Err}
 use Rattle.ff_rec.specs.Lines.{Rec, text}
 use Rattle.ff_io.specs.FileLaws.{KeepsOthers-from_KeepsAll}
 use Rattle.ff_io.specs.Files.{Holdings, KeepsAll}
@@ -22,7 +21,6 @@ use Rattle.ff_top.specs.Finishing.{Answered, Closes, Finished, closing}
 use Rattle.ff_top.specs.Outside.{Outside, StaysOrRises, count_by, streams_of}
 use Rattle.ff_top.specs.Running.{KeepsBut, Stored, Ran, RanByThreads, CountsRun, run_output, run_refused, run_job}
 use Rattle.ff_top.specs.declared.run_cause.RunCause.{RunCause}
-use Rattle.ff_top.specs.declared.run_cause.RunCause.TheVariants.{Refused, Tasks, Write, Rejects, Read, Line, NoMemory}
 
 -- files that were all kept
 KeepsBut-all : (rejects : Option (List ℕ)) (told now : Option Holdings) → KeepsAll told now → KeepsBut rejects told now

@@ -1,5 +1,5 @@
 -- A file that holds too many bytes has no network.
-use Rattle.std.proofs.Common.{ℕ, ◌<◌, suc, List, length, Option, None, Some, refl, arith}
+use Rattle.std.proofs.Common.{ℕ, ◌<◌, suc, List, length, Option, None, Some, arith}
 use Rattle.std.proofs.Math.ListN.{replicate}
 use Rattle.std.proofs.lemmas.List.{length-replicate}
 use Rattle.ff_io.specs.Files.{Holdings, HoldsMore}

@@ -5,9 +5,9 @@ use Rattle.ff_net.specs.Tree.{Tree}
 use Rattle.ff_net.specs.Versions.{limit_by, seen_by}
 use Rattle.ff_ops.specs.Operation.{OpState, op_node}
 use Rattle.ff_top.specs.Checking.{Printed}
-use Rattle.ff_top.specs.Outside.{Outside, IsUntouched}
+use Rattle.ff_top.specs.Outside.{Outside}
 use Rattle.ff_top.specs.Running.{Ran, by_threads, run_job}
-use Rattle.ff_top.specs.Texts.{IsGiven, IsGivenFault, version}
+use Rattle.ff_top.specs.Texts.{version}
 use Rattle.ff_top.specs.declared.fault.Fault.{Fault}
 use Rattle.ff_top.specs.declared.fault.Fault.TheVariants as fault
 use Rattle.ff_words.specs.declared.command.Command.{Command}

@@ -72,7 +72,7 @@ abbrev pub CountsInput : {A : Type 0} → ℕ → ℕ → Result A Fault → Typ
 CountsInput before now (Err (Run fault)) = RunInput before now fault
 CountsInput before now _ = now ≡ before
 
--- the counts of faults rose as this answer says
+-- the counts of faults and of refused starts rose as this answer says
 pub record Counts (before now : Outside) (answer : Result ℕ Fault) : Type 0 where
   pub files : now.files_faults ≡ files_count before.files_faults answer
   pub input : CountsInput before.input_faults now.input_faults answer
@@ -105,8 +105,8 @@ pub record IsRefused (words : List (List ℕ)) (before : Outside) : Type 0 where
   pub is_known : IsKnown before.told given text
   pub refused : (t : Tree OpState) → IsSpelled text t → KeepsRules t → ⊥
 
--- What is answered where no count of faults rose, unless memory ran out: an accepted command over an input within the limits
--- is done, over another a limit is told, and a text that isn't accepted is refused.
+-- What is answered where no count of faults rose and no start was refused, unless memory ran out: an accepted command over an
+-- input within the limits is done, over another a limit is told, and a text that isn't accepted is refused.
 pub record IsComplete (status : ℕ) (words : List (List ℕ)) (before now : Outside) : Type 0 where
   pub done : IsQuiet before now → (job : Command) (t : Tree OpState) → IsAccepted words before job t
       → IsInLimits job t before.left → (status ≡ 0) ⊎ (status ≡ 6)

@@ -44,7 +44,8 @@ pub record RanByThreads (j : Job OpState) (xs : List Rec) (before now : Outside)
   pub starts : RoseBy (units j.net) before.starts now.starts
   pub worked : RoseBy (units j.net + length xs) before.worked now.worked
 
--- The network ran, and stopped reading so. So many records were rejected, and these are stored where a file is given for them.
+-- The network ran, by threads where it was to, and stopped reading so. So many records were rejected, and these are stored
+-- where a file is given for them.
 pub record HasStored (j : Job OpState) (threads : Bool) (rejects : Option (List ℕ)) (before now : Outside) (why : Stop) (count : ℕ) : Type 0 where
   pub report : Report
   pub ran : HasRun j (streams_of before now) (record { stop = why; report = report })
@@ -101,7 +102,7 @@ abbrev pub CountsRun : ℕ → ℕ → Result ℕ RunCause → Type 0
 CountsRun before now (Ok n) = now ≡ before
 CountsRun before now (Err cause) = RunInput before now cause
 
--- the counts of faults went as this answer of a run says
+-- the counts of faults and of refused starts went as this answer of a run says
 pub record RunCounts (before now : Outside) (answer : Result ℕ RunCause) : Type 0 where
   pub files : now.files_faults ≡ count_by run_files before.files_faults answer
   pub input : CountsRun before.input_faults now.input_faults answer

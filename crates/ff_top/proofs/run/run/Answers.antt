@@ -1,5 +1,5 @@
 -- The network ran, and the run was finished.
-use Rattle.std.proofs.Common.{◌≡◌, sym, subst, ◌∙◌}
+use Rattle.std.proofs.Common.{◌≡◌, subst, ◌∙◌}
 use Rattle.ff_net.specs.Tree.{tree_of}
 use Rattle.ff_top.proofs.Answering.{Answered-files}
 use Rattle.ff_top.proofs.Finished.{Ran-finished, CountsRun-finished, output-finished, refused-finished}
