@@ -70,7 +70,7 @@ impl Path {
     }
 
     /// The place of a child.
-    pub(crate) fn down(&self, child: usize) -> Path
+    pub fn down(&self, child: usize) -> Path
         requires room { length self.now < 16 }
         requires counted { 1 ≤ child }
         ensures { result ≡ self.now ++ child ∷ [] }

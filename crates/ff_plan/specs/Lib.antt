@@ -1,0 +1,5 @@
+pub mod Rows
+pub mod Laying
+pub mod Plans
+pub mod Histories
+pub mod PlanLaws

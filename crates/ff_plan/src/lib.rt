@@ -1,0 +1,11 @@
+//! Plans: the units and edges of a network, and the law that joins them.
+#![tactic(auto)]
+
+mod edge_list;
+mod kind;
+pub mod laws;
+mod layout;
+
+pub use edge_list::EdgeList;
+pub use kind::{Party, Queue, UnitKind};
+pub use layout::{Edge, Layout, UnitRow};
