@@ -1,1 +1,3 @@
 mod Opens
+mod Units
+mod Single
