@@ -1,3 +1,4 @@
 mod Opens
 mod Units
 mod Single
+mod Pipe
