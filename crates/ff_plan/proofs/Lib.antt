@@ -1,1 +1,4 @@
 mod Opens
+mod Totals
+mod Shares
+mod Columns
