@@ -1,4 +1,7 @@
 mod Opens
+mod Totals
+mod Shares
+mod Columns
 mod Units
 mod Single
 mod Pipe
