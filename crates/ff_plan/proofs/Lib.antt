@@ -5,3 +5,4 @@ mod Columns
 mod Units
 mod Single
 mod Pipe
+mod Copies
