@@ -6,3 +6,7 @@ mod Units
 mod Single
 mod Pipe
 mod Copies
+mod LogCounts
+mod LogAnswers
+mod LevelWeights
+mod LogLevels
