@@ -2,7 +2,10 @@ mod Opens
 mod Totals
 mod Shares
 mod Columns
+mod Messages
 mod Units
 mod Single
 mod Pipe
 mod Copies
+mod Views
+mod Runs
