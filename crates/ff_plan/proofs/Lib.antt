@@ -1,3 +1,5 @@
 mod Opens
 mod Units
 mod Single
+mod Edges
+mod Dealing
