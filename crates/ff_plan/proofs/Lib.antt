@@ -3,3 +3,4 @@ mod Units
 mod Single
 mod Edges
 mod Dealing
+mod Masters
