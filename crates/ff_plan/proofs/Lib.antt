@@ -1,6 +1,11 @@
 mod Opens
+mod Totals
+mod Shares
+mod Columns
 mod Units
 mod Single
 mod Edges
 mod Dealing
 mod Masters
+mod Pipe
+mod Copies
