@@ -5,6 +5,9 @@ mod Columns
 mod Messages
 mod Units
 mod Single
+mod Edges
+mod Dealing
+mod Masters
 mod Pipe
 mod Copies
 mod Views
