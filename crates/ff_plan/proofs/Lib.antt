@@ -2,3 +2,4 @@ mod Opens
 mod Totals
 mod Shares
 mod Columns
+mod MeanPlain
