@@ -3,3 +3,5 @@ mod Totals
 mod Shares
 mod Columns
 mod MeanPlain
+mod LevelsSame
+mod MeanSame
