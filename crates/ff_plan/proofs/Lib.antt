@@ -2,6 +2,9 @@ mod Opens
 mod Totals
 mod Shares
 mod Columns
+mod MeanPlain
+mod LevelsSame
+mod MeanSame
 mod Messages
 mod Units
 mod Single
