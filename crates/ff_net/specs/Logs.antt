@@ -114,6 +114,8 @@ pub record AreMasterIns (n : ℕ) (ins : List (List Message)) : Type 0 where
 pub record FitsMaster (n m : ℕ) (p : Test) (log : List Event) (ins outs : List (List Message)) : Type 0 where
   pub ins_are : length ins ≡ suc n
   pub outs_are : length outs ≡ suc n
+  -- whatever comes in, the workers are given records alone. What their answers are like rests on this
+  pub tasks : (w : ℕ) → w < n → (xs : List Rec) × (at outs w ≡ carried xs)
   pub by : AreMasterIns n ins → IsLegal n m p log × (HasDone n m p log ins outs ⊎ HasOverrun n m p log ins outs)
 
 -- an Eos stands among these messages
