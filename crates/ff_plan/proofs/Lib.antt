@@ -19,3 +19,6 @@ mod LevelWeights
 mod LogLevels
 mod Views
 mod Runs
+mod Fronts
+mod PlainWorkers
+mod Wraps

@@ -25,7 +25,7 @@ AllOn-edges edge [] (ms ∷ lists) all = absurd all
 AllOn-edges edge (e ∷ es) [] all = absurd all
 AllOn-edges edge (e ∷ es) (ms ∷ lists) all = ap₂ (λ first rest. first ∷ rest) (sym all.0) (AllOn-edges edge es lists all.1)
 
-AllOn-map : (edge : ℕ → List Message) (es : List ℕ) → AllOn (λ e ms. ms ≡ edge e) es (map edge es)
+pub AllOn-map : (edge : ℕ → List Message) (es : List ℕ) → AllOn (λ e ms. ms ≡ edge e) es (map edge es)
 AllOn-map edge [] = tt
 AllOn-map edge (e ∷ es) = (refl, AllOn-map edge es)
 
