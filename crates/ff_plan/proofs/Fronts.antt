@@ -85,7 +85,7 @@ before-eos (m ∷ ms) (u ∷ us) more is = elim (before-eos ms us more (cc is)) 
   | inr rest ↦ inr (rest.0, ap₂ (λ z zs. z ∷ zs) (cc is) rest.1)
 ]
 
-IsOpen-carried : (xs : List Rec) → IsOpen (carried xs)
+pub IsOpen-carried : (xs : List Rec) → IsOpen (carried xs)
 IsOpen-carried [] = tt
 IsOpen-carried (x ∷ xs) = (tt, IsOpen-carried xs)
 

@@ -16,9 +16,12 @@ mod Copies
 mod LogCounts
 mod LogAnswers
 mod LevelWeights
+mod Withins
 mod LogLevels
 mod Views
 mod Runs
 mod Fronts
 mod PlainWorkers
 mod Wraps
+mod WholeWraps
+mod CutWraps

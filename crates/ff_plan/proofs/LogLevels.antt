@@ -10,11 +10,8 @@ use Rattle.ff_net.specs.declared.net.Test.{Test}
 use Rattle.ff_net.specs.Levels.{meets, levels, IsOver, results}
 use Rattle.ff_net.specs.Logs.{Event, Fed, Gave, Got, fed, given, came, came_out, made, Within, IsLegal, IsDone}
 use Rattle.ff_plan.proofs.LevelWeights.{round, left, levels-weigh, levels-more, levels-most, results-weigh}
+use Rattle.ff_plan.proofs.Withins.{Within-length}
 use Rattle.ff_plan.proofs.LogAnswers.{IsSound, IsSound-older, answers-within, answers-all, came-weigh, came_out-weigh}
-
--- a list within another is no longer
-Within-length : {A : Type 0} {xs ys : List A} → Within xs ys → length xs ≤ length ys
-Within-length {A} {xs} {ys} within = omega (arith, within.by (λ _. 1), weigh-one xs, weigh-one ys)
 
 -- one more task was within those that may be given, so it came
 gave-came : (m : ℕ) (p : Test) (t : Rec) (log : List Event) → Within (t ∷ given log) (made m p log) → Within (t ∷ given log) (came p log)

@@ -1,6 +1,7 @@
 -- A worker of Plain nodes: it sends and rejects for each task what the network that it runs means for it.
 use Rattle.std.proofs.Common.{◌≡◌, ℕ, true, List, [], ◌∷◌, ◌++◌, map, refl, sym, ap₂, ◌∙◌}
 use Rattle.std.specs.List.{AllByRecursion, flat_map}
+use Rattle.std.proofs.Math.Path.{fun_ext}
 use Rattle.std.proofs.lemmas.Bool.{true≢false}
 use Rattle.ff_rec.specs.Lines.{Rec}
 use Rattle.ff_rec.specs.Weights.{Same}
@@ -85,8 +86,8 @@ module _ {N : Type 0} (b : Behaviour N) (keeps : KeepsKind b) (law : (o : N) →
   line : IsLine b m w
   line = IsLine-node b m w plain.0 good
 
-  pub mean-worker : (xs : List Rec) → mean b m w xs ≡ flat_map (worker_sends b w) xs
-  mean-worker xs = line.mean xs ∙ sym (node-group_of b keeps combed w xs) ∙ (by_records xs).0
+  pub mean-worker : mean b m w ≡ flat_map (worker_sends b w)
+  mean-worker = fun_ext (λ xs. line.mean xs ∙ sym (node-group_of b keeps combed w xs) ∙ (by_records xs).0)
 
   pub rejected-worker : (xs : List Rec) → node_rejected (comb_node b) (group_of b w) xs ≡ flat_map (worker_rejects b w) xs
   rejected-worker xs = (by_records xs).1
