@@ -138,7 +138,8 @@ pub record BeginsMaster (n m : ℕ) (p : Test) (log : List Event) (gots puts : L
   pub fed_in : (more : List Message) × (unaborted (at gots 0) ≡ carried (fed log) ++ more)
   pub answers : (w : ℕ) → w < n → (more : List Message) × (unaborted (at gots (suc w)) ≡ grouped (got_from w log) ++ more)
   pub tasks : (w : ℕ) → w < n → BeginsWhole (unaborted (at puts w)) (given_to w log)
-  pub results : BeginsWhole (unaborted (at puts n)) (came_out p log)
+  -- past the limit it drops results, and its Eos comes behind the others
+  pub results : length (came p log) ≤ m → BeginsWhole (unaborted (at puts n)) (came_out p log)
   pub ends : (k : ℕ) → k < suc n → HasEos (at puts k) → HasEos (at gots 0) × IsDone n m p log
   pub whole : HasEos (at puts n) → length (came p log) ≤ m
       → (unaborted (at gots 0) ≡ closed (carried (fed log)))

@@ -1,5 +1,5 @@
 -- The law of a wrap in a run that was cut short: what its master put begins an answer, as far as no more tasks can come than the limit allows.
-use Rattle.std.proofs.Common.{◌≡◌, ℕ, suc, ◌+◌, ◌<◌, List, [], ◌∷◌, ◌++◌, map, length, sym, ap, ◌∙◌, subst, append_assoc, inl, inr, arith}
+use Rattle.std.proofs.Common.{◌≡◌, ℕ, suc, ◌+◌, ◌<◌, ◌≤◌, List, [], ◌∷◌, ◌++◌, map, length, sym, ap, ◌∙◌, subst, append_assoc, inl, inr, arith}
 use Rattle.std.specs.List.{flat_map}
 use Rattle.std.proofs.lemmas.Bool.{cases_lt}
 use Rattle.ff_rec.specs.Lines.{Rec}
@@ -89,20 +89,22 @@ module _ {N : Type 0} (b : Behaviour N) (keeps : KeepsKind b) (law : (o : N) →
       calm = tt;
     }
 
+    few_came : ¬ IsOver (flat_map (worker_sends b w)) p m xs → length (came p log) ≤ m
+    few_came fine = elim (cases_lt m (length (came p log))) [
+      | inl more ↦ absurd (fine (IsOver-came n m p (worker_sends b w) log begins.legal sound xs feeds more))
+      | inr few ↦ few
+    ]
+
     -- it put all
     all_put : ¬ IsOver (flat_map (worker_sends b w)) p m xs → HasEos (put o)
         → HasAnswer b m view (Wrap n w p) (lay place (Wrap n w p) i o e) (log ∷ logs) o xs
     all_put fine eos =
         let has : HasEos (at (map put (range e n ++ o ∷ [])) n) = subst HasEos (sym (at-behind put e n o)) eos in
-        elim (cases_lt m (length (came p log))) [
-          | inl more ↦ absurd (fine (IsOver-came n m p (worker_sends b w) log begins.legal sound xs feeds more))
-          | inr few ↦
-              let whole = begins.whole has few in
-              let all = IsAll-done n m p (worker_sends b w) log begins.legal sound (begins.ends n (omega arith) has).1 few in
-              let fed_is : xs ≡ fed log = closed-front xs (fed log) in_i.more (in_i.is ∙ ap (λ ms. ms ++ in_i.more) whole.0) in
-              answer fine (came_out p log) (GoesOn-closed (unaborted (put o)) (came_out p log) (ap unaborted (sym (at-behind put e n o)) ∙ whole.2))
-              (subst (λ (us : List Rec). Same (results (flat_map (worker_sends b w)) p m us) (came_out p log)) (sym fed_is) all.results)
-        ]
+        let whole = begins.whole has (few_came fine) in
+        let all = IsAll-done n m p (worker_sends b w) log begins.legal sound (begins.ends n (omega arith) has).1 (few_came fine) in
+        let fed_is : xs ≡ fed log = closed-front xs (fed log) in_i.more (in_i.is ∙ ap (λ ms. ms ++ in_i.more) whole.0) in
+        answer fine (came_out p log) (GoesOn-closed (unaborted (put o)) (came_out p log) (ap unaborted (sym (at-behind put e n o)) ∙ whole.2))
+        (subst (λ (us : List Rec). Same (results (flat_map (worker_sends b w)) p m us) (came_out p log)) (sym fed_is) all.results)
 
     -- it may put more
     some_put : ¬ IsOver (flat_map (worker_sends b w)) p m xs → (rest : List Message) → carried (came_out p log) ≡ unaborted (put o) ++ rest
@@ -119,8 +121,9 @@ module _ {N : Type 0} (b : Behaviour N) (keeps : KeepsKind b) (law : (o : N) →
           inr ((λ fine. fine is_over), tt)
       | inr few ↦
           let fine : ¬ IsOver (flat_map (worker_sends b w)) p m xs = λ over. omega (arith, over, few) in
-          let put_is = begins.results.is ∙ ap (λ ms. unaborted ms ++ begins.results.more) (at-behind put e n o) in
-          elim (before-eos (carried (came_out p log)) (unaborted (put o)) begins.results.more put_is) [
+          let so_far = begins.results (few_came fine) in
+          let put_is = so_far.is ∙ ap (λ ms. unaborted ms ++ so_far.more) (at-behind put e n o) in
+          elim (before-eos (carried (came_out p log)) (unaborted (put o)) so_far.more put_is) [
             | inl eos ↦ inl (all_put fine (HasEos-unaborted (put o) eos))
             | inr rest ↦ inl (some_put fine rest.0 rest.1)
           ]
