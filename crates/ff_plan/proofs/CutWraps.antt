@@ -1,6 +1,6 @@
 -- The law of a wrap in a run that was cut short: what its master put begins an answer, as far as no more tasks can come than the limit allows.
-use Rattle.std.proofs.Common.{◌≡◌, ℕ, suc, ◌+◌, ◌<◌, ◌≤◌, List, [], ◌∷◌, ◌++◌, map, length, sym, ap, ◌∙◌, subst, append_assoc, inl, inr, arith}
-use Rattle.std.specs.List.{flat_map}
+use Rattle.std.proofs.Common.{◌≡◌, ℕ, suc, ◌+◌, ◌<◌, ◌≤◌, List, [], ◌∷◌, ◌++◌, map, length, refl, sym, ap, ◌∙◌, subst, append_assoc, inl, inr, arith}
+use Rattle.std.specs.List.{AllByRecursion, flat_map}
 use Rattle.std.proofs.lemmas.Bool.{cases_lt}
 use Rattle.ff_rec.specs.Lines.{Rec}
 use Rattle.ff_rec.specs.Streams.{at, carried, unaborted, GoesOn}
@@ -10,23 +10,26 @@ use Rattle.ff_rec.proofs.WeightLaws.{Same-sym, weigh-append}
 use Rattle.ff_node.specs.Behaviour.{Behaviour, KeepsKind}
 use Rattle.ff_node.specs.Classes.{ClassLaw}
 use Rattle.ff_node.specs.Comb.{CombIsPipeline}
-use Rattle.ff_node.specs.Fits.{grouped}
+use Rattle.ff_node.specs.Fits.{grouped, IsItemOrMark}
 use Rattle.ff_node.specs.Runs.{Message}
 use Rattle.ff_net.specs.declared.net.Test.{Test}
 use Rattle.ff_net.specs.Good.{Good, PlainNode}
 use Rattle.ff_net.specs.Levels.{IsOver, levels, results}
-use Rattle.ff_net.specs.Logs.{Event, fed, given_to, got_from, came, came_out, Within, HasEos, BeginsMaster}
+use Rattle.ff_net.specs.Logs.{Event, fed, given_to, got_from, came, came_out, Within, HasEos, BeginsLogged, BeginsMaster}
 use Rattle.ff_net.specs.Meaning.{mean}
 use Rattle.ff_net.specs.Places.{child}
 use Rattle.ff_net.specs.Tree.{Tree, Wrap}
 use Rattle.ff_plan.specs.declared.kind.UnitKind.TheVariants.{Worker}
 use Rattle.ff_plan.specs.Laying.{lay, copies}
 use Rattle.ff_plan.specs.Rows.{range}
-use Rattle.ff_plan.proofs.Fronts.{IsOpen-carried, GoesOn-closed, GoesOn-open, HasEos-unaborted, before-eos, carried-front, closed-front}
+use Rattle.ff_plan.proofs.Edges.{AllOn-each}
+use Rattle.ff_plan.proofs.Fronts.{items_or_marks, IsOpen-carried, GoesOn-closed, GoesOn-open, HasEos-unaborted, before-eos, carried-front, closed-front}
 use Rattle.ff_plan.proofs.LogAnswers.{IsSound}
 use Rattle.ff_plan.proofs.LogLevels.{IsOver-came, Within-results, IsAll-done}
 use Rattle.ff_plan.proofs.Opens.{View, Known, HasAnswer, Outcome, LawOf}
 use Rattle.ff_plan.proofs.PlainWorkers.{worker_sends, mean-worker}
+use Rattle.ff_plan.proofs.Runs.{AllOn-AllGoOn}
+use Rattle.ff_plan.proofs.Units.{listed, at-listed}
 use Rattle.ff_plan.proofs.Views.{cut_view}
 use Rattle.ff_plan.proofs.Withins.{Within-rest}
 use Rattle.ff_plan.proofs.Wraps.{at-front, at-range, at-behind, workers_give, IsSound-groups}
@@ -59,10 +62,21 @@ module _ {N : Type 0} (b : Behaviour N) (keeps : KeepsKind b) (law : (o : N) →
         view.link (e + n + j) owed
         (workers_give b m view (child place 1) w e (e + n) n logs workers j below (given_to j log) (view.link (e + j) (carried (given_to j log)) (given_whole j below)))
 
+    -- so what it took begins what its ins may carry
+    logged : BeginsLogged n m p log (map got (i ∷ range (e + n) n)) (map put (range e n ++ o ∷ []))
+    logged =
+        let owed : ℕ → List Message = λ j. grouped (map (worker_sends b w) (given_to j log)) in
+        let goes = AllOn-each (λ k ms. GoesOn (unaborted (got k)) ms) (e + n) n owed answered in
+        begins.by (carried xs ∷ listed n owed) (in_i, AllOn-AllGoOn got (range (e + n) n) (listed n owed) goes) (record {
+          records = xs;
+          fed_in = refl;
+          answers = λ j below. subst (AllByRecursion IsItemOrMark) (sym (at-listed n owed j below)) (items_or_marks (map (worker_sends b w) (given_to j log)));
+        })
+
     sound : IsSound n (worker_sends b w) log
     sound = IsSound-groups n m p (worker_sends b w) log begins.legal (λ j below.
         let goes = answered j below in
-        let so_far = begins.answers j below in (
+        let so_far = logged.answers j below in (
           Eos ∷ [],
           so_far.0 ++ goes.more,
           goes.is
@@ -73,7 +87,7 @@ module _ {N : Type 0} (b : Behaviour N) (keeps : KeepsKind b) (law : (o : N) →
 
     feeds : Within (fed log) xs
     feeds =
-        let so_far = begins.fed_in in
+        let so_far = logged.fed_in in
         let all = carried-front xs (fed log) (so_far.0 ++ in_i.more)
         (in_i.is ∙ ap (λ ms. ms ++ in_i.more) so_far.1 ∙ append_assoc (carried (fed log)) so_far.0 in_i.more) in
         record { by = λ h. omega (arith, ap (weigh h) all.1, weigh-append h (fed log) all.0) }
@@ -100,8 +114,8 @@ module _ {N : Type 0} (b : Behaviour N) (keeps : KeepsKind b) (law : (o : N) →
         → HasAnswer b m view (Wrap n w p) (lay place (Wrap n w p) i o e) (log ∷ logs) o xs
     all_put fine eos =
         let has : HasEos (at (map put (range e n ++ o ∷ [])) n) = subst HasEos (sym (at-behind put e n o)) eos in
-        let whole = begins.whole has (few_came fine) in
-        let all = IsAll-done n m p (worker_sends b w) log begins.legal sound (begins.ends n (omega arith) has).1 (few_came fine) in
+        let whole = logged.whole has (few_came fine) in
+        let all = IsAll-done n m p (worker_sends b w) log begins.legal sound (logged.ends n (omega arith) has).1 (few_came fine) in
         let fed_is : xs ≡ fed log = closed-front xs (fed log) in_i.more (in_i.is ∙ ap (λ ms. ms ++ in_i.more) whole.0) in
         answer fine (came_out p log) (GoesOn-closed (unaborted (put o)) (came_out p log) (ap unaborted (sym (at-behind put e n o)) ∙ whole.2))
         (subst (λ (us : List Rec). Same (results (flat_map (worker_sends b w)) p m us) (came_out p log)) (sym fed_is) all.results)
@@ -121,7 +135,7 @@ module _ {N : Type 0} (b : Behaviour N) (keeps : KeepsKind b) (law : (o : N) →
           inr ((λ fine. fine is_over), tt)
       | inr few ↦
           let fine : ¬ IsOver (flat_map (worker_sends b w)) p m xs = λ over. omega (arith, over, few) in
-          let so_far = begins.results (few_came fine) in
+          let so_far = logged.results (few_came fine) in
           let put_is = so_far.is ∙ ap (λ ms. unaborted ms ++ so_far.more) (at-behind put e n o) in
           elim (before-eos (carried (came_out p log)) (unaborted (put o)) so_far.more put_is) [
             | inl eos ↦ inl (all_put fine (HasEos-unaborted (put o) eos))

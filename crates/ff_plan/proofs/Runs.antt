@@ -30,7 +30,7 @@ AllOn-map edge [] = tt
 AllOn-map edge (e ∷ es) = (refl, AllOn-map edge es)
 
 -- lists that what stands on their edges goes on to
-AllOn-AllGoOn : (got : ℕ → List Message) (es : List ℕ) (lists : List (List Message)) → AllOn (λ e ms. GoesOn (unaborted (got e)) ms) es lists → AllGoOn (map got es) lists
+pub AllOn-AllGoOn : (got : ℕ → List Message) (es : List ℕ) (lists : List (List Message)) → AllOn (λ e ms. GoesOn (unaborted (got e)) ms) es lists → AllGoOn (map got es) lists
 AllOn-AllGoOn got [] [] all = tt
 AllOn-AllGoOn got [] (ms ∷ lists) all = absurd all
 AllOn-AllGoOn got (e ∷ es) [] all = absurd all
