@@ -40,17 +40,19 @@ module _ (On : ℕ → List Message → Type 0) where
   AllOn-each e zero f each = tt
   AllOn-each e (suc n) f each =
       let first : e + 0 ≡ e = omega arith in
-      let rest : (j : ℕ) → e + suc j ≡ suc e + j = λ j. omega arith in
-      (subst (λ k. On k (f 0)) first (each 0 (omega arith)),
-      AllOn-each (suc e) n (λ j. f (suc j)) (λ j below. subst (λ k. On k (f (suc j))) (rest j) (each (suc j) (omega (arith, below)))))
+      let rest : (j : ℕ) → e + suc j ≡ suc e + j = λ j. omega arith in (
+        subst (λ k. On k (f 0)) first (each 0 (omega arith)),
+        AllOn-each (suc e) n (λ j. f (suc j)) (λ j below. subst (λ k. On k (f (suc j))) (rest j) (each (suc j) (omega (arith, below)))),
+      )
 
   pub AllOn-stride : (step e n : ℕ) (f : ℕ → List Message) → ((j : ℕ) → j < n → On (e + j * step) (f j)) → AllOn On (stride step e n) (listed n f)
   AllOn-stride step e zero f each = tt
   AllOn-stride step e (suc n) f each =
       let first : e + 0 * step ≡ e = omega arith in
-      let rest : (j : ℕ) → e + suc j * step ≡ e + step + j * step = λ j. omega (arith, suc-times j step) in
-      (subst (λ k. On k (f 0)) first (each 0 (omega arith)),
-      AllOn-stride step (e + step) n (λ j. f (suc j)) (λ j below. subst (λ k. On k (f (suc j))) (rest j) (each (suc j) (omega (arith, below)))))
+      let rest : (j : ℕ) → e + suc j * step ≡ e + step + j * step = λ j. omega (arith, suc-times j step) in (
+        subst (λ k. On k (f 0)) first (each 0 (omega arith)),
+        AllOn-stride step (e + step) n (λ j. f (suc j)) (λ j below. subst (λ k. On k (f (suc j))) (rest j) (each (suc j) (omega (arith, below)))),
+      )
 
   pub AllOn-append : (es fs : List ℕ) (mss nss : List (List Message)) → AllOn On es mss → AllOn On fs nss → AllOn On (es ++ fs) (mss ++ nss)
   AllOn-append [] fs [] nss left right = right

@@ -15,3 +15,4 @@ mod Pipe
 mod Copies
 mod Views
 mod Runs
+mod Farm
