@@ -16,3 +16,4 @@ mod Copies
 mod Views
 mod Runs
 mod Farm
+mod NetLaws
