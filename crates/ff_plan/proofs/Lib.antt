@@ -9,3 +9,6 @@ mod Dealing
 mod Masters
 mod Pipe
 mod Copies
+mod MeanPlain
+mod LevelsSame
+mod MeanSame

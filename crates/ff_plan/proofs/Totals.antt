@@ -1,5 +1,5 @@
 -- Sums over places.
-use Rattle.std.proofs.Common.{◌≡◌, ℕ, zero, suc, ◌+◌, ◌<◌, ◌≤◌, ◌==◌, Bool, true, false, cond, ◌≢◌, sym, refl, ap, ◌∙◌, arith}
+use Rattle.std.proofs.Common.{◌≡◌, ℕ, zero, suc, ◌+◌, ◌<◌, ◌≤◌, ◌==◌, Bool, true, false, cond, ◌≢◌, sym, refl, arith}
 use Rattle.std.proofs.lemmas.Bool.{eqb-true, eqb-false}
 
 -- f 0 + .. + f (n - 1)
