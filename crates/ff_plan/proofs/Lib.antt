@@ -12,3 +12,4 @@ mod Copies
 mod MeanPlain
 mod LevelsSame
 mod MeanSame
+mod Sets
