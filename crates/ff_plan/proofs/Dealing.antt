@@ -6,10 +6,13 @@ use Rattle.ff_node.specs.Behaviour.{Behaviour}
 use Rattle.ff_node.specs.Fits.{IsDealt, FitsMerge}
 use Rattle.ff_node.specs.Picks.{ArePicks, share, turns, by_key}
 use Rattle.ff_node.specs.Runs.{Message}
+use Rattle.ff_net.specs.declared.net.Route.{Route}
+use Rattle.ff_net.specs.declared.net.Route.TheVariants.{Rr, Od, By}
 use Rattle.ff_net.specs.Logs.{Event}
 use Rattle.ff_net.specs.Tree.{Tree}
 use Rattle.ff_plan.specs.declared.kind.UnitKind.TheVariants.{DealRr, DealOd, DealBy, Merge}
 use Rattle.ff_plan.specs.Histories.{FitsKind}
+use Rattle.ff_plan.specs.Laying.{route_kind}
 use Rattle.ff_plan.specs.Rows.{range, laid}
 use Rattle.ff_plan.proofs.Edges.{AllOn-range}
 use Rattle.ff_plan.proofs.Opens.{View, AllOn, KnownOf}
@@ -21,11 +24,19 @@ pub record Deals {N : Type 0} (v : View N) (e n : ℕ) (picks : List ℕ) (xs : 
   pub are : ArePicks n picks xs
   pub out : (j : ℕ) → j < n → v.Out (e + j) (carried (share picks xs j))
 
--- edge `o` may carry `ys`, of which list j is the share of place j
-pub record IsMerged {N : Type 0} (v : View N) (o n : ℕ) (lists : ℕ → List Rec) (ys : List Rec) (picks : List ℕ) : Type 0 where
+-- edge `o` may carry a list of which list `j` is share j
+pub record Merges {N : Type 0} (v : View N) (o n : ℕ) (lists : ℕ → List Rec) : Type 0 where
+  pub ys : List Rec
+  pub picks : List ℕ
   pub are : ArePicks n picks ys
   pub parts : (j : ℕ) → j < n → share picks ys j ≡ lists j
   pub out : v.Out o (carried ys)
+
+-- what is known of the picks of a route
+abbrev pub ArePicksOf : Route → ℕ → List Rec → List ℕ → Type 0
+ArePicksOf Rr n xs picks = Unit {0}
+ArePicksOf Od n xs picks = Unit {0}
+ArePicksOf (By f) n xs picks = picks ≡ by_key f n xs
 
 pub carried-one : (xs ys : List Rec) → carried xs ≡ carried ys → xs ≡ ys
 carried-one xs ys e = sym (items-carried xs) ∙ ap items e ∙ items-carried ys
@@ -59,16 +70,25 @@ module _ {N : Type 0} (b : Behaviour N) (m : ℕ) (v : View N) (place : List ℕ
       let fits = subst (λ k. FitsKind b m (DealBy f) t 1 k log (carried xs ∷ []) given.0) (length-range e n) given.2 in
       Deals-dealt e n (by_key f n xs) xs given.0 given.1 (fits.1 xs refl)
 
+  -- a deal by a route
+  pub deals_by_route : (r : Route) (i e n : ℕ) (xs : List Rec) → KnownOf b m v (route_kind r) (laid (route_kind r) (i ∷ []) (range e n) place t) log → v.In i (carried xs)
+      → (picks : List ℕ) × Deals v e n picks xs × ArePicksOf r n xs picks
+  deals_by_route Rr i e n xs known from = (turns n (length xs), deals_in_turn i e n xs known from, tt)
+  deals_by_route Od i e n xs known from = let dealt = deals_on_demand i e n xs known from in (dealt.0, dealt.1, tt)
+  deals_by_route (By f) i e n xs known from = (by_key f n xs, deals_by_key f i e n xs known from, refl)
+
   -- a merge
   pub merges : (es : List ℕ) (o n : ℕ) (lists : ℕ → List Rec) → KnownOf b m v Merge (laid Merge es (o ∷ []) place t) log → length es ≡ n
-      → AllOn v.In es (listed n (λ j. carried (lists j))) → (merged : List Rec × List ℕ) × IsMerged v o n lists merged.0 merged.1
+      → AllOn v.In es (listed n (λ j. carried (lists j))) → Merges v o n lists
   merges es o n lists known long from =
       let ins : List (List Message) = listed n (λ j. carried (lists j)) in
       let given = known.by ins from in
       let fits : FitsMerge n ins given.0 = subst (λ k. FitsKind b m Merge t k 1 log ins given.0) long given.2 in
       let merged = fits.2 (listed n lists) (sym (map-listed carried n lists)) in
-      ((merged.0, merged.1), record {
+      record {
+        ys = merged.0;
+        picks = merged.1;
         are = merged.3.picks_are;
         parts = λ j below. carried-one (share merged.1 merged.0 j) (lists j) (sym (merged.3.shares j below) ∙ at-listed n (λ k. carried (lists k)) j below);
         out = subst (v.Out o) merged.2 (AllOn-one v.Out o given.0 given.1);
-      })
+      }

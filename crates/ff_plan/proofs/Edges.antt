@@ -35,14 +35,24 @@ module _ (On : ℕ → List Message → Type 0) where
   AllOn-behind e (suc n) p [] all = absurd all
   AllOn-behind e (suc n) p (ms ∷ mss) all = AllOn-behind (suc e) n p mss all.1
 
-  -- lists for edges a step behind one another
+  -- lists for such edges
+  pub AllOn-each : (e n : ℕ) (f : ℕ → List Message) → ((j : ℕ) → j < n → On (e + j) (f j)) → AllOn On (range e n) (listed n f)
+  AllOn-each e zero f each = tt
+  AllOn-each e (suc n) f each =
+      let first : e + 0 ≡ e = omega arith in
+      let rest : (j : ℕ) → e + suc j ≡ suc e + j = λ j. omega arith in (
+        subst (λ k. On k (f 0)) first (each 0 (omega arith)),
+        AllOn-each (suc e) n (λ j. f (suc j)) (λ j below. subst (λ k. On k (f (suc j))) (rest j) (each (suc j) (omega (arith, below)))),
+      )
+
   pub AllOn-stride : (step e n : ℕ) (f : ℕ → List Message) → ((j : ℕ) → j < n → On (e + j * step) (f j)) → AllOn On (stride step e n) (listed n f)
   AllOn-stride step e zero f each = tt
   AllOn-stride step e (suc n) f each =
       let first : e + 0 * step ≡ e = omega arith in
-      let rest : (j : ℕ) → e + suc j * step ≡ e + step + j * step = λ j. omega (arith, suc-times j step) in
-      (subst (λ k. On k (f 0)) first (each 0 (omega arith)),
-      AllOn-stride step (e + step) n (λ j. f (suc j)) (λ j below. subst (λ k. On k (f (suc j))) (rest j) (each (suc j) (omega (arith, below)))))
+      let rest : (j : ℕ) → e + suc j * step ≡ e + step + j * step = λ j. omega (arith, suc-times j step) in (
+        subst (λ k. On k (f 0)) first (each 0 (omega arith)),
+        AllOn-stride step (e + step) n (λ j. f (suc j)) (λ j below. subst (λ k. On k (f (suc j))) (rest j) (each (suc j) (omega (arith, below)))),
+      )
 
   pub AllOn-append : (es fs : List ℕ) (mss nss : List (List Message)) → AllOn On es mss → AllOn On fs nss → AllOn On (es ++ fs) (mss ++ nss)
   AllOn-append [] fs [] nss left right = right
@@ -50,7 +60,7 @@ module _ (On : ℕ → List Message → Type 0) where
   AllOn-append (e ∷ es) fs [] nss left right = absurd left
   AllOn-append (e ∷ es) fs (ms ∷ mss) nss left right = (left.0, AllOn-append es fs mss nss left.1 right)
 
-  -- the same, said of each edge by its number
+  -- what stands on such edges, by their numbers
   pub OnRange-at : (e n : ℕ) (f : ℕ → List Message) → OnRange On e n f → (j : ℕ) → j < n → On (e + j) (f j)
   OnRange-at e zero f on j below = absurd (omega (arith, below))
   OnRange-at e (suc n) f on zero below =
@@ -59,11 +69,3 @@ module _ (On : ℕ → List Message → Type 0) where
   OnRange-at e (suc n) f on (suc j) below =
       let same : suc e + j ≡ e + suc j = omega arith in
       subst (λ k. On k (f (suc j))) same (OnRange-at (suc e) n (λ k. f (suc k)) on.1 j (omega (arith, below)))
-
-  pub OnRange-each : (e n : ℕ) (f : ℕ → List Message) → ((j : ℕ) → j < n → On (e + j) (f j)) → OnRange On e n f
-  OnRange-each e zero f each = tt
-  OnRange-each e (suc n) f each =
-      let first : e + 0 ≡ e = omega arith in
-      let rest : (j : ℕ) → e + suc j ≡ suc e + j = λ j. omega arith in
-      (subst (λ k. On k (f 0)) first (each 0 (omega arith)),
-      OnRange-each (suc e) n (λ j. f (suc j)) (λ j below. subst (λ k. On k (f (suc j))) (rest j) (each (suc j) (omega (arith, below)))))

@@ -2,6 +2,10 @@ mod Opens
 mod Totals
 mod Shares
 mod Columns
+mod MeanPlain
+mod LevelsSame
+mod MeanSame
+mod Messages
 mod Units
 mod Single
 mod Edges
@@ -9,7 +13,7 @@ mod Dealing
 mod Masters
 mod Pipe
 mod Copies
-mod MeanPlain
-mod LevelsSame
-mod MeanSame
 mod Sets
+mod Views
+mod Runs
+mod Farm

@@ -16,6 +16,7 @@ use Rattle.ff_net.specs.Tree.{Tree, Trees, Leaf, Pipe, Comb, Farm, OFarm, A2a, W
 use Rattle.ff_plan.specs.declared.kind.UnitKind.TheVariants.{Stage}
 use Rattle.ff_plan.specs.Histories.{group_of, all_rejected}
 use Rattle.ff_plan.specs.Rows.{Laid, laid}
+pub use Rattle.ff_plan.proofs.Messages.{items-carried}
 use Rattle.ff_plan.proofs.Opens.{View, IsOpen, Known, HasAnswer, Outcome, LawOf}
 use Rattle.ff_plan.proofs.Units.{AllOn-one}
 
@@ -29,10 +30,6 @@ pub record IsLine {N : Type 0} (b : Behaviour N) (m : ℕ) (t : Tree N) : Type 0
 pub SameInOrder-≡ : (ordered : Bool) (xs ys : List Rec) → ys ≡ xs → SameInOrder ordered xs ys
 SameInOrder-≡ true xs ys e = e
 SameInOrder-≡ false xs ys e = Same-≡ xs ys (sym e)
-
-pub items-carried : {T : Type 0} (xs : List T) → items (carried xs) ≡ xs
-items-carried [] = refl
-items-carried (x ∷ xs) = ap (λ rest. x ∷ rest) (items-carried xs)
 
 nodes_of-running : {N : Type 0} (os : List N) → nodes_of (running os) ≡ os
 nodes_of-running [] = refl
