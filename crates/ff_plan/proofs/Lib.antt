@@ -5,3 +5,6 @@ mod Columns
 mod MeanPlain
 mod LevelsSame
 mod MeanSame
+mod Filters
+mod Keyed
+mod Carries
