@@ -17,3 +17,6 @@ mod Sets
 mod Views
 mod Runs
 mod Farm
+mod Filters
+mod Keyed
+mod Carries
