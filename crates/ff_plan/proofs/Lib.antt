@@ -20,3 +20,4 @@ mod Farm
 mod Filters
 mod Keyed
 mod Carries
+mod Routes
