@@ -21,3 +21,4 @@ mod Farm
 mod Views
 mod Runs
 mod NetLaws
+mod Routes
