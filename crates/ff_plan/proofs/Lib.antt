@@ -7,4 +7,4 @@ mod LevelsSame
 mod MeanSame
 mod Filters
 mod Keyed
-mod Carries
+mod FormLaws
