@@ -22,3 +22,4 @@ mod Views
 mod Runs
 mod NetLaws
 mod Routes
+mod FormLaws
