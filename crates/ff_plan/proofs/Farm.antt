@@ -28,7 +28,7 @@ use Rattle.ff_plan.proofs.Edges.{AllOn-each}
 use Rattle.ff_plan.proofs.Masters.{calm_of, NoMaster-lay}
 use Rattle.ff_plan.proofs.MeanPlain.{no_wrap_fine, mean_additive, mean_rejected_additive}
 use Rattle.ff_plan.proofs.Opens.{View, KnownOf, LawOf}
-use Rattle.ff_plan.proofs.Carries.{same_in_order}
+use Rattle.ff_plan.proofs.FormLaws.{same_in_order}
 use Rattle.ff_plan.proofs.Shares.{total-weigh-additive, same_of_shares}
 use Rattle.ff_plan.proofs.Units.{OnRange, OnRange-AllOn, OnRange-map, AllOn-listed, listed, at-listed, length-range, EachUnit-append, EachUnit-one, all_rejected-append}
 

@@ -13,13 +13,13 @@ mod Single
 mod Edges
 mod Dealing
 mod Masters
+mod FormLaws
 mod Sets
+mod Carries
 mod Pipe
 mod Copies
-mod Carries
 mod Farm
 mod Views
 mod Runs
 mod NetLaws
 mod Routes
-mod FormLaws
