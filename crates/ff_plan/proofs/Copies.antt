@@ -1,5 +1,5 @@
 -- Networks that are laid alike side by side, each between two edges of its own.
-use Rattle.std.proofs.Common.{◌≡◌, ℕ, zero, suc, ◌+◌, ◌<◌, List, [], ◌∷◌, ◌++◌, refl, sym, ap, ◌∙◌, subst, inl, inr, arith}
+use Rattle.std.proofs.Common.{◌≡◌, ℕ, zero, suc, ◌+◌, ◌<◌, List, [], ◌∷◌, ◌++◌, refl, ap, inl, inr, arith}
 use Rattle.ff_rec.specs.Lines.{Rec}
 use Rattle.ff_rec.specs.Streams.{carried}
 use Rattle.ff_rec.specs.Weights.{weigh}
@@ -9,12 +9,12 @@ use Rattle.ff_net.specs.Forms.{is_ordered}
 use Rattle.ff_net.specs.Logs.{Event}
 use Rattle.ff_net.specs.Meaning.{mean, mean_rejected, Fine, SameInOrder}
 use Rattle.ff_net.specs.Tree.{Tree}
-use Rattle.ff_plan.specs.Histories.{EachUnit, all_rejected}
+use Rattle.ff_plan.specs.Histories.{all_rejected}
 use Rattle.ff_plan.specs.Laying.{lay, lay_copies}
 use Rattle.ff_plan.specs.Rows.{Laid}
-use Rattle.ff_plan.proofs.Opens.{View, Known, HasAnswer, Outcome, LawOf}
+use Rattle.ff_plan.proofs.Opens.{View, Known, HasAnswer, LawOf}
 use Rattle.ff_plan.proofs.Totals.{total}
-use Rattle.ff_plan.proofs.Units.{OnRange, EachUnit-append, EachUnit-has_log, all_rejected-append}
+use Rattle.ff_plan.proofs.Units.{OnRange, EachUnit-append, all_rejected-append}
 
 -- a sum from its first place on
 pub total-first : (n : ℕ) (f : ℕ → ℕ) → total (suc n) f ≡ f 0 + total n (λ j. f (suc j))
@@ -27,23 +27,21 @@ onto x f zero = x
 onto x f (suc j) = f j
 
 -- network j gives an answer for list j on edge o + j; in a whole run they rejected together what each of them rejects for its list
-pub record HaveAnswers {N : Type 0} (b : Behaviour N) (m : ℕ) (v : View N) (t : Tree N) (ls : List (Laid N)) (logs : List (List Event)) (o n : ℕ) (xss : ℕ → List Rec) : Type 0 where
+pub record HaveAnswers {N : Type 0} (b : Behaviour N) (m : ℕ) (v : View N) (t : Tree N) (ls : List (Laid N)) (o n : ℕ) (xss : ℕ → List Rec) : Type 0 where
   pub yss : ℕ → List Rec
   pub outs : OnRange v.Out o n (λ j. carried (yss j))
   pub same : (j : ℕ) → j < n → SameInOrder (is_ordered t) (mean b m t (xss j)) (yss j)
   pub rejects : v.Whole → (h : Rec → ℕ) → total n (λ j. weigh h (mean_rejected b m t (xss j))) ≡ weigh h (all_rejected b ls v.edge)
-  pub calm : v.Calm ls logs
 
 module _ {N : Type 0} (b : Behaviour N) (m : ℕ) (v : View N) (t : Tree N) where
   -- one network, and those behind it
-  one_more : (ls ks : List (Laid N)) (logs kogs : List (List Event)) (o n : ℕ) (xss : ℕ → List Rec) → EachUnit (λ l log. Unit {0}) ls logs
-      → HasAnswer b m v t ls logs o (xss 0) → HaveAnswers b m v t ks kogs (suc o) n (λ j. xss (suc j)) → HaveAnswers b m v t (ls ++ ks) (logs ++ kogs) o (suc n) xss
-  one_more ls ks logs kogs o n xss logged first rest = record {
+  one_more : (ls ks : List (Laid N)) (logs : List (List Event)) (o n : ℕ) (xss : ℕ → List Rec)
+      → HasAnswer b m v t ls logs o (xss 0) → HaveAnswers b m v t ks (suc o) n (λ j. xss (suc j)) → HaveAnswers b m v t (ls ++ ks) o (suc n) xss
+  one_more ls ks logs o n xss first rest = record {
     yss = onto first.ys rest.yss;
     outs = (first.out, rest.outs);
     same = same;
     rejects = rejects;
-    calm = v.calm_both ls logs ks kogs logged first.calm rest.calm;
   }
     where
       same : (j : ℕ) → j < suc n → SameInOrder (is_ordered t) (mean b m t (xss j)) (onto first.ys rest.yss j)
@@ -63,24 +61,17 @@ module _ {N : Type 0} (b : Behaviour N) (m : ℕ) (v : View N) (t : Tree N) wher
 
   -- the law of all of them, where no wrap in them is over its limit
   pub law_copies : LawOf b m v t → ((xs : List Rec) → Fine b m t xs) → (at : List ℕ) (width i o e n : ℕ) (logs : List (List Event)) (xss : ℕ → List Rec)
-      → Known b m v (lay_copies (lay at t) width i o e n) logs → OnRange v.In i n (λ j. carried (xss j)) → HaveAnswers b m v t (lay_copies (lay at t) width i o e n) logs o n xss
+      → Known b m v (lay_copies (lay at t) width i o e n) logs → OnRange v.In i n (λ j. carried (xss j)) → HaveAnswers b m v t (lay_copies (lay at t) width i o e n) o n xss
   law_copies law fine at width i o e zero [] xss known ins = record {
     yss = xss;
     outs = tt;
     same = λ j below. absurd (omega (arith, below));
     rejects = λ whole h. refl;
-    calm = v.calm_none;
   }
   law_copies law fine at width i o e zero (log ∷ logs) xss known ins = absurd known
   law_copies law fine at width i o e (suc n) logs xss known ins =
       let ls = lay at t i o e in
       let ks = lay_copies (lay at t) width (suc i) (suc o) (e + width) n in
       let split = EachUnit-append _ ls ks logs known in
-      let logged = EachUnit-has_log _ ls split.front split.left in
       let rest = law_copies law fine at width (suc i) (suc o) (e + width) n split.back (λ j. xss (suc j)) split.right ins.1 in
-      let both : HaveAnswers b m v t (ls ++ ks) (split.front ++ split.back) o (suc n) xss =
-      elim (law at i o e split.front (xss 0) split.left ins.0) [
-        | inl first ↦ one_more ls ks split.front split.back o n xss logged first rest
-        | inr burst ↦ absurd (burst.0 (fine (xss 0)))
-      ] in
-      subst (λ (rows : List (List Event)). HaveAnswers b m v t (ls ++ ks) rows o (suc n) xss) (sym split.is) both
+      elim (law at i o e split.front (xss 0) split.left ins.0) [ inl first ↦ one_more ls ks split.front o n xss first rest | inr burst ↦ absurd (burst.0 (fine (xss 0))) ]

@@ -55,19 +55,27 @@ module _ {N : Type 0} (b : Behaviour N) (m : ℕ) (v : View N) (place : List ℕ
       let fits = subst (λ k. FitsKind b m DealRr t 1 k log (carried xs ∷ []) given.0) (length-range e n) given.2 in
       Deals-dealt e n (turns n (length xs)) xs given.0 given.1 (fits.1 xs refl)
 
+  -- a deal on demand
+  pub deals_on_demand : (i e n : ℕ) (xs : List Rec) → KnownOf b m v DealOd (laid DealOd (i ∷ []) (range e n) place t) log → v.In i (carried xs) → (picks : List ℕ) × Deals v e n picks xs
+  deals_on_demand i e n xs known from =
+      let given = known.by (carried xs ∷ []) (from, tt) in
+      let fits = subst (λ k. FitsKind b m DealOd t 1 k log (carried xs ∷ []) given.0) (length-range e n) given.2 in
+      let dealt = fits.1 xs refl in
+      (dealt.0, Deals-dealt e n dealt.0 xs given.0 given.1 dealt.1)
+
+  -- a deal by key
+  pub deals_by_key : (f i e n : ℕ) (xs : List Rec) → KnownOf b m v (DealBy f) (laid (DealBy f) (i ∷ []) (range e n) place t) log → v.In i (carried xs) → Deals v e n (by_key f n xs) xs
+  deals_by_key f i e n xs known from =
+      let given = known.by (carried xs ∷ []) (from, tt) in
+      let fits = subst (λ k. FitsKind b m (DealBy f) t 1 k log (carried xs ∷ []) given.0) (length-range e n) given.2 in
+      Deals-dealt e n (by_key f n xs) xs given.0 given.1 (fits.1 xs refl)
+
   -- a deal by a route
   pub deals_by_route : (r : Route) (i e n : ℕ) (xs : List Rec) → KnownOf b m v (route_kind r) (laid (route_kind r) (i ∷ []) (range e n) place t) log → v.In i (carried xs)
       → (picks : List ℕ) × Deals v e n picks xs × ArePicksOf r n xs picks
   deals_by_route Rr i e n xs known from = (turns n (length xs), deals_in_turn i e n xs known from, tt)
-  deals_by_route Od i e n xs known from =
-      let given = known.by (carried xs ∷ []) (from, tt) in
-      let fits = subst (λ k. FitsKind b m DealOd t 1 k log (carried xs ∷ []) given.0) (length-range e n) given.2 in
-      let dealt = fits.1 xs refl in
-      (dealt.0, Deals-dealt e n dealt.0 xs given.0 given.1 dealt.1, tt)
-  deals_by_route (By f) i e n xs known from =
-      let given = known.by (carried xs ∷ []) (from, tt) in
-      let fits = subst (λ k. FitsKind b m (DealBy f) t 1 k log (carried xs ∷ []) given.0) (length-range e n) given.2 in
-      (by_key f n xs, Deals-dealt e n (by_key f n xs) xs given.0 given.1 (fits.1 xs refl), refl)
+  deals_by_route Od i e n xs known from = let dealt = deals_on_demand i e n xs known from in (dealt.0, dealt.1, tt)
+  deals_by_route (By f) i e n xs known from = (by_key f n xs, deals_by_key f i e n xs known from, refl)
 
   -- a merge
   pub merges : (es : List ℕ) (o n : ℕ) (lists : ℕ → List Rec) → KnownOf b m v Merge (laid Merge es (o ∷ []) place t) log → length es ≡ n

@@ -4,7 +4,7 @@ use Rattle.ff_rec.specs.Streams.{at}
 use Rattle.ff_node.specs.Runs.{Message}
 use Rattle.ff_plan.specs.Rows.{range, stride}
 use Rattle.ff_plan.proofs.Opens.{AllOn}
-use Rattle.ff_plan.proofs.Units.{listed, AllOn-one}
+use Rattle.ff_plan.proofs.Units.{OnRange, listed, AllOn-one}
 
 pub length-stride : (step e n : ℕ) → length (stride step e n) ≡ n
 length-stride step e zero = refl
@@ -40,20 +40,32 @@ module _ (On : ℕ → List Message → Type 0) where
   AllOn-each e zero f each = tt
   AllOn-each e (suc n) f each =
       let first : e + 0 ≡ e = omega arith in
-      let rest : (j : ℕ) → e + suc j ≡ suc e + j = λ j. omega arith in
-      (subst (λ k. On k (f 0)) first (each 0 (omega arith)),
-      AllOn-each (suc e) n (λ j. f (suc j)) (λ j below. subst (λ k. On k (f (suc j))) (rest j) (each (suc j) (omega (arith, below)))))
+      let rest : (j : ℕ) → e + suc j ≡ suc e + j = λ j. omega arith in (
+        subst (λ k. On k (f 0)) first (each 0 (omega arith)),
+        AllOn-each (suc e) n (λ j. f (suc j)) (λ j below. subst (λ k. On k (f (suc j))) (rest j) (each (suc j) (omega (arith, below)))),
+      )
 
   pub AllOn-stride : (step e n : ℕ) (f : ℕ → List Message) → ((j : ℕ) → j < n → On (e + j * step) (f j)) → AllOn On (stride step e n) (listed n f)
   AllOn-stride step e zero f each = tt
   AllOn-stride step e (suc n) f each =
       let first : e + 0 * step ≡ e = omega arith in
-      let rest : (j : ℕ) → e + suc j * step ≡ e + step + j * step = λ j. omega (arith, suc-times j step) in
-      (subst (λ k. On k (f 0)) first (each 0 (omega arith)),
-      AllOn-stride step (e + step) n (λ j. f (suc j)) (λ j below. subst (λ k. On k (f (suc j))) (rest j) (each (suc j) (omega (arith, below)))))
+      let rest : (j : ℕ) → e + suc j * step ≡ e + step + j * step = λ j. omega (arith, suc-times j step) in (
+        subst (λ k. On k (f 0)) first (each 0 (omega arith)),
+        AllOn-stride step (e + step) n (λ j. f (suc j)) (λ j below. subst (λ k. On k (f (suc j))) (rest j) (each (suc j) (omega (arith, below)))),
+      )
 
   pub AllOn-append : (es fs : List ℕ) (mss nss : List (List Message)) → AllOn On es mss → AllOn On fs nss → AllOn On (es ++ fs) (mss ++ nss)
   AllOn-append [] fs [] nss left right = right
   AllOn-append [] fs (ms ∷ mss) nss left right = absurd left
   AllOn-append (e ∷ es) fs [] nss left right = absurd left
   AllOn-append (e ∷ es) fs (ms ∷ mss) nss left right = (left.0, AllOn-append es fs mss nss left.1 right)
+
+  -- what stands on such edges, by their numbers
+  pub OnRange-at : (e n : ℕ) (f : ℕ → List Message) → OnRange On e n f → (j : ℕ) → j < n → On (e + j) (f j)
+  OnRange-at e zero f on j below = absurd (omega (arith, below))
+  OnRange-at e (suc n) f on zero below =
+      let same : e ≡ e + 0 = omega arith in
+      subst (λ k. On k (f 0)) same on.0
+  OnRange-at e (suc n) f on (suc j) below =
+      let same : suc e + j ≡ e + suc j = omega arith in
+      subst (λ k. On k (f (suc j))) same (OnRange-at (suc e) n (λ k. f (suc k)) on.1 j (omega (arith, below)))

@@ -86,11 +86,13 @@ module _ {N : Type 0} where
   NoMaster-push ls kind ins outs at t free other = NoMaster-append ls (laid kind ins outs at t ∷ []) free (other, tt)
 
   NoMaster-sets : (at : List ℕ) (n : ℕ) (l : Tree N) (r : Route) (m : ℕ) (t : Tree N) (i o e : ℕ) → NoMaster (lay at (A2a n l r m t) i o e)
-  NoMaster-sets at n l r m t i o e = (turn_is_none,
-      NoMaster-append _ _ (NoMaster-copies (child at 1) l e (e + n) n)
-      (NoMaster-append _ _ (NoMaster-row_deals (route_kind r) (routes r) at (A2a n l r m t) m (e + n) (e + 2 * n) n)
-      (NoMaster-append _ _ (NoMaster-column_merges at (A2a n l r m t) n m (e + 2 * n) (e + 2 * n + n * m) m)
-      (NoMaster-append _ _ (NoMaster-copies (child at 2) t (e + 2 * n + n * m) (e + 2 * n + n * m + m) m) (merge_is_none, tt)))))
+  NoMaster-sets at n l r m t i o e = (
+    turn_is_none,
+    NoMaster-append _ _ (NoMaster-copies (child at 1) l e (e + n) n)
+        (NoMaster-append _ _ (NoMaster-row_deals (route_kind r) (routes r) at (A2a n l r m t) m (e + n) (e + 2 * n) n)
+        (NoMaster-append _ _ (NoMaster-column_merges at (A2a n l r m t) n m (e + 2 * n) (e + 2 * n + n * m) m)
+        (NoMaster-append _ _ (NoMaster-copies (child at 2) t (e + 2 * n + n * m) (e + 2 * n + n * m + m) m) (merge_is_none, tt)))),
+  )
 
   mutual
     pub NoMaster-lay : (t : Tree N) (at : List ℕ) (i o e : ℕ) → has_wrap t ≡ false → NoMaster (lay at t i o e)

@@ -52,15 +52,21 @@ total-weigh-additive {A} {B} {n} {p} {xs} f additive are h =
     ∙ total-weigh-share are (λ x. weigh h (additive.each x))
     ∙ sym (made xs)
 
+-- a list whose shares weigh together what another list does
+pub same_of_totals : {A : Type 0} {n : ℕ} {q : List ℕ} {ys : List A} (us : ℕ → List A) (vs : List A)
+    → ArePicks n q ys → ((j : ℕ) → j < n → Same (us j) (share q ys j)) → ((h : A → ℕ) → total n (λ j. weigh h (us j)) ≡ weigh h vs) → Same vs ys
+same_of_totals {A} {n} {q} {ys} us vs merged shares together = record {
+  by = λ h.
+      sym (together h)
+      ∙ total-same n (λ j. weigh h (us j)) (λ j. weigh h (share q ys j)) (λ j below. (shares j below).by h)
+      ∙ total-weigh-share merged h;
+}
+
 -- a list each of whose shares is what is made of a share is what is made of the whole
 pub same_of_shares : {A B : Type 0} {n : ℕ} {p q : List ℕ} {xs : List A} {ys : List B} (f : List A → List B)
     → ArePicks n p xs → ArePicks n q ys → ((j : ℕ) → j < n → Same (f (share p xs j)) (share q ys j)) → Additive f → Same (f xs) ys
-same_of_shares {A} {B} {n} {p} {q} {xs} {ys} f dealt merged shares additive = record {
-  by = λ h.
-      sym (total-weigh-additive f additive dealt h)
-      ∙ total-same n (λ j. weigh h (f (share p xs j))) (λ j. weigh h (share q ys j)) (λ j below. (shares j below).by h)
-      ∙ total-weigh-share merged h;
-}
+same_of_shares {A} {B} {n} {p} {q} {xs} {ys} f dealt merged shares additive =
+    same_of_totals (λ j. f (share p xs j)) (f xs) merged shares (total-weigh-additive f additive dealt)
 
 -- the places of round robin
 length-turns_from : (n k m : ℕ) → length (turns_from n k m) ≡ m

@@ -24,6 +24,11 @@ EachUnit-append P (l ∷ ls) ks (log ∷ logs) each =
     let rest = EachUnit-append P ls ks logs each.1 in
     record { front = log ∷ rest.front; back = rest.back; is = ap (λ rows. log ∷ rows) rest.is; left = (each.0, rest.left); right = rest.right }
 
+-- the only unit
+pub EachUnit-one : {N : Type 0} (P : Laid N → List Event → Type 0) (l : Laid N) (logs : List (List Event)) → EachUnit P (l ∷ []) logs → (log : List Event) × P l log
+EachUnit-one P l [] each = absurd each
+EachUnit-one P l (log ∷ logs) each = (log, each.0)
+
 -- what is so of each unit
 pub EachUnit-map : {N : Type 0} (P Q : Laid N → List Event → Type 0) (ls : List (Laid N)) (logs : List (List Event)) → ((l : Laid N) (log : List Event) → P l log → Q l log)
     → EachUnit P ls logs → EachUnit Q ls logs
