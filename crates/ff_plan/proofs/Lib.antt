@@ -21,3 +21,5 @@ mod Filters
 mod Keyed
 mod Carries
 mod Routes
+mod SetFlows
+mod A2a
