@@ -11,12 +11,8 @@ use Rattle.ff_net.specs.Forms.{any_unordered}
 use Rattle.ff_net.specs.Good.{SteadyParts}
 use Rattle.ff_net.specs.Meaning.{mean_through, mean_rejected_through, FineThrough, SameInOrder}
 use Rattle.ff_net.specs.Tree.{Trees}
+use Rattle.ff_plan.proofs.FormLaws.{same_in_order}
 use Rattle.ff_plan.proofs.MeanSame.{mean_through_steady, rejected_through_steady, fine_through_steady}
-
--- records in the order that is asked for are the same records
-pub same_in_order : (s : Bool) (xs ys : List Rec) → SameInOrder s xs ys → Same xs ys
-same_in_order true xs ys is = Same-≡ xs ys (sym is)
-same_in_order false xs ys same = same
 
 -- one list is in whatever order is asked for
 pub in_order-≡ : (s : Bool) (xs ys : List Rec) → ys ≡ xs → SameInOrder s xs ys

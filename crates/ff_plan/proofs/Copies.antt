@@ -12,7 +12,7 @@ use Rattle.ff_net.specs.Tree.{Tree}
 use Rattle.ff_plan.specs.Histories.{all_rejected}
 use Rattle.ff_plan.specs.Laying.{lay, lay_copies}
 use Rattle.ff_plan.specs.Rows.{Laid}
-use Rattle.ff_plan.proofs.Opens.{View, Known, HasAnswer, Outcome, LawOf}
+use Rattle.ff_plan.proofs.Opens.{View, Known, HasAnswer, LawOf}
 use Rattle.ff_plan.proofs.Totals.{total}
 use Rattle.ff_plan.proofs.Units.{OnRange, EachUnit-append, all_rejected-append}
 

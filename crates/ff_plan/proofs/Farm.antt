@@ -28,7 +28,7 @@ use Rattle.ff_plan.proofs.Edges.{OnRange-each}
 use Rattle.ff_plan.proofs.Masters.{calm_of, NoMaster-lay}
 use Rattle.ff_plan.proofs.MeanPlain.{no_wrap_fine, mean_additive, mean_rejected_additive}
 use Rattle.ff_plan.proofs.Opens.{View, KnownOf, LawOf}
-use Rattle.ff_plan.proofs.Pipe.{Same-in_order}
+use Rattle.ff_plan.proofs.FormLaws.{same_in_order}
 use Rattle.ff_plan.proofs.Shares.{total-weigh-additive, same_of_shares}
 use Rattle.ff_plan.proofs.Units.{OnRange, OnRange-map, AllOn-listed, length-range, EachUnit-append, EachUnit-one, all_rejected-append}
 
@@ -64,7 +64,7 @@ module _ {N : Type 0} (b : Behaviour N) where
         where
           shares : (j : ℕ) → j < n → Same (mean b m w (share picks xs j)) (share merged.picks merged.ys j)
           shares j below =
-              Same-trans (Same-in_order (is_ordered w) (mean b m w (share picks xs j)) (given.yss j) (given.same j below))
+              Same-trans (same_in_order (is_ordered w) (mean b m w (share picks xs j)) (given.yss j) (given.same j below))
               (Same-≡ (given.yss j) (share merged.picks merged.ys j) (sym (merged.parts j below)))
 
       pub law_farm : (s : Sched) → LawOf b m v w → LawOf b m v (Farm n s w)

@@ -1,6 +1,6 @@
 -- Lists of messages: what they carry, and what goes on to a whole list.
 use Rattle.std.proofs.Common.{◌≡◌, List, [], ◌∷◌, ◌++◌, refl, sym, ap, ◌∙◌, append_assoc, append-nil}
-use Rattle.ff_rec.specs.Streams.{items, carried, unaborted, closed, GoesOn}
+use Rattle.ff_rec.specs.Streams.{items, carried, unaborted, GoesOn}
 use Rattle.ff_rec.specs.declared.msg.Msg.{Msg}
 use Rattle.ff_rec.specs.declared.msg.Msg.TheVariants.{Item, Mark, Pick, Eos, Abort}
 

@@ -1,15 +1,14 @@
 -- From the law of a network to its whole runs, and to its runs that were cut short.
-use Rattle.std.proofs.Common.{◌≡◌, ◌⊎◌, ℕ, List, [], ◌∷◌, ◌++◌, map, refl, sym, ap, ap₂, ◌∙◌, subst, inl, inr}
-use Rattle.ff_rec.specs.Lines.{Rec}
+use Rattle.std.proofs.Common.{◌≡◌, ℕ, List, [], ◌∷◌, ◌++◌, map, refl, sym, ap₂, subst, inl, inr}
 use Rattle.ff_rec.specs.Streams.{carried, items, unaborted, GoesOn}
 use Rattle.ff_node.specs.Behaviour.{Behaviour}
-use Rattle.ff_node.specs.Runs.{Message, AllGoOn, HasOuts, BeginsToFit}
+use Rattle.ff_node.specs.Runs.{Message, AllGoOn, BeginsToFit}
 use Rattle.ff_net.specs.Logs.{Event}
 use Rattle.ff_net.specs.Meaning.{Fine}
 use Rattle.ff_net.specs.Tree.{Tree}
 use Rattle.ff_plan.specs.declared.kind.UnitKind.{UnitKind}
 use Rattle.ff_plan.specs.declared.kind.UnitKind.TheVariants.{Stage, DealRr, DealOd, DealBy, Merge, ODealRr, ODealOd, OMergeTurn, OMergePick, Master, Worker}
-use Rattle.ff_plan.specs.Histories.{FitsUnit, BeginsUnit, EachUnit, IsHistory, IsPartial, SomeOver}
+use Rattle.ff_plan.specs.Histories.{FitsUnit, BeginsUnit, EachUnit, IsHistory, SomeOver}
 use Rattle.ff_plan.specs.Laying.{units_of}
 use Rattle.ff_plan.specs.PlanLaws.{Answered, WholeRuns, BeginsAnswer, CutRuns}
 use Rattle.ff_plan.specs.Rows.{Laid, laid}

@@ -1,23 +1,24 @@
 -- The law of one node, and of a comb: a stage sends and rejects what its nodes do one behind another.
-use Rattle.std.proofs.Common.{◌≡◌, ℕ, Bool, true, false, List, [], ◌∷◌, ◌++◌, map, refl, sym, ap, ◌∙◌, subst, append-nil, inl, inr}
+use Rattle.std.proofs.Common.{◌≡◌, ℕ, List, [], ◌∷◌, ◌++◌, map, refl, sym, ap, ◌∙◌, subst, append-nil, inl}
 use Rattle.ff_rec.specs.Lines.{Rec}
 use Rattle.ff_rec.specs.Streams.{at, carried, items}
 use Rattle.ff_rec.specs.Weights.{Same}
-use Rattle.ff_rec.proofs.WeightLaws.{Same-≡, Same-refl, Same-sym, Same-trans}
+use Rattle.ff_rec.proofs.WeightLaws.{Same-≡, Same-sym, Same-trans}
 use Rattle.ff_node.specs.Behaviour.{Behaviour, KeepsKind, node, node_rejected, pipeline, pipeline_rejected, sent_from, rejected_from}
 use Rattle.ff_node.specs.Comb.{running, nodes_of, comb_node, CombIsPipeline}
 use Rattle.ff_node.specs.Fits.{FitsStage}
 use Rattle.ff_net.specs.Forms.{is_ordered}
 use Rattle.ff_net.specs.Good.{AreLeaves}
 use Rattle.ff_net.specs.Logs.{Event}
-use Rattle.ff_net.specs.Meaning.{mean, mean_through, mean_rejected, mean_rejected_through, Fine, FineThrough, SameInOrder}
+use Rattle.ff_net.specs.Meaning.{mean, mean_through, mean_rejected, mean_rejected_through, Fine, FineThrough}
 use Rattle.ff_net.specs.Nodes.{nodes_in, nodes_through}
 use Rattle.ff_net.specs.Tree.{Tree, Trees, Leaf, Pipe, Comb, Farm, OFarm, A2a, Wrap, none, more}
 use Rattle.ff_plan.specs.declared.kind.UnitKind.TheVariants.{Stage}
-use Rattle.ff_plan.specs.Histories.{group_of, all_rejected}
+use Rattle.ff_plan.specs.Histories.{group_of}
 use Rattle.ff_plan.specs.Rows.{Laid, laid}
+use Rattle.ff_plan.proofs.Carries.{in_order-≡}
 pub use Rattle.ff_plan.proofs.Messages.{items-carried}
-use Rattle.ff_plan.proofs.Opens.{View, IsOpen, Known, HasAnswer, Outcome, LawOf}
+use Rattle.ff_plan.proofs.Opens.{View, IsOpen, Known, Outcome, LawOf}
 use Rattle.ff_plan.proofs.Units.{AllOn-one}
 
 -- a network means its nodes one behind another, and no wrap is over its limit
@@ -25,11 +26,6 @@ pub record IsLine {N : Type 0} (b : Behaviour N) (m : ℕ) (t : Tree N) : Type 0
   pub fine : (xs : List Rec) → Fine b m t xs
   pub mean : (xs : List Rec) → mean b m t xs ≡ pipeline b (nodes_in t) xs
   pub rejected : (xs : List Rec) → mean_rejected b m t xs ≡ pipeline_rejected b (nodes_in t) xs
-
--- equal lists are the same, whatever is asked of their order
-pub SameInOrder-≡ : (ordered : Bool) (xs ys : List Rec) → ys ≡ xs → SameInOrder ordered xs ys
-SameInOrder-≡ true xs ys e = e
-SameInOrder-≡ false xs ys e = Same-≡ xs ys (sym e)
 
 nodes_of-running : {N : Type 0} (os : List N) → nodes_of (running os) ≡ os
 nodes_of-running [] = refl
@@ -101,7 +97,7 @@ module _ {N : Type 0} (b : Behaviour N) (keeps : KeepsKind b) (combed : CombIsPi
           fine = line.fine xs;
           ys = mean b m t xs;
           out = subst (v.Out o) sends (AllOn-one v.Out o given.0 given.1);
-          same = SameInOrder-≡ (is_ordered t) (mean b m t xs) (mean b m t xs) refl;
+          same = in_order-≡ (is_ordered t) (mean b m t xs) (mean b m t xs) refl;
           rejects = λ whole. rejects (v.edge i) (v.is_edge whole i (carried xs) in_i);
           calm = v.calm_unit unit log [] [] (λ h. absurd (cc h)) v.calm_none;
         })

@@ -1,19 +1,17 @@
 -- The two views of a run: whole, where one list stands on each edge, and cut short, where what was taken and put goes on to whole
 -- lists.
-use Rattle.std.proofs.Common.{◌≡◌, ◌⊎◌, ℕ, List, [], ◌∷◌, ◌++◌, map, refl, sym, ap, ◌∙◌, inl, inr}
-use Rattle.ff_rec.specs.Lines.{Rec}
+use Rattle.std.proofs.Common.{◌≡◌, ◌⊎◌, ℕ, List, [], ◌∷◌, ◌++◌, map, refl, inl, inr}
 use Rattle.ff_rec.specs.Streams.{unaborted, GoesOn}
 use Rattle.ff_node.specs.Behaviour.{Behaviour}
-use Rattle.ff_node.specs.Runs.{Message, AllGoOn, HasOuts, BeginsToFit}
+use Rattle.ff_node.specs.Runs.{Message}
 use Rattle.ff_net.specs.Logs.{Event}
 use Rattle.ff_net.specs.Tree.{Tree}
 use Rattle.ff_plan.specs.declared.kind.UnitKind.{UnitKind}
 use Rattle.ff_plan.specs.declared.kind.UnitKind.TheVariants.{Stage, DealRr, DealOd, DealBy, Merge, ODealRr, ODealOd, OMergeTurn, OMergePick, Master, Worker}
-use Rattle.ff_plan.specs.Histories.{FitsUnit, BeginsUnit, EachUnit, IsHistory, IsPartial, IsOverAt, SomeOver}
-use Rattle.ff_plan.specs.Rows.{Laid, laid}
+use Rattle.ff_plan.specs.Histories.{FitsUnit, BeginsUnit, EachUnit, IsOverAt, SomeOver}
+use Rattle.ff_plan.specs.Rows.{Laid}
 use Rattle.ff_plan.proofs.Messages.{GoesOn-front}
-use Rattle.ff_plan.proofs.Opens.{View, AllOn, IsOpen, KnownOf, Known}
-use Rattle.ff_plan.proofs.Units.{EachUnit-map}
+use Rattle.ff_plan.proofs.Opens.{View}
 
 -- no unit but a master is over its limit
 pub IsOverAt-other : {N : Type 0} (m : ℕ) (kind : UnitKind) (t : Tree N) (log : List Event) → (kind ≡ Master → ⊥) → IsOverAt m kind t log → ⊥
