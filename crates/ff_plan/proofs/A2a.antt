@@ -1,5 +1,5 @@
 -- The law of an all-to-all.
-use Rattle.std.proofs.Common.{◌≡◌, ℕ, ◌+◌, ◌*◌, ◌≤◌, ◌⊎◌, true, false, List, ◌++◌, sym, ap, ap₂, ◌∙◌, refl, subst, inl, inr}
+use Rattle.std.proofs.Common.{◌≡◌, ℕ, ◌+◌, ◌*◌, ◌≤◌, ◌⊎◌, true, false, List, ◌++◌, sym, ap, ap₂, ◌∙◌, subst, inl, inr}
 use Rattle.std.proofs.lemmas.Bool.{or_from}
 use Rattle.ff_rec.specs.Lines.{Rec}
 use Rattle.ff_rec.specs.Weights.{weigh, Same}
@@ -9,48 +9,28 @@ use Rattle.ff_node.specs.OnLists.{PlainGoesByRecords, UnorderedGoesByCounts, Key
 use Rattle.ff_node.specs.Picks.{share}
 use Rattle.ff_net.specs.declared.net.Route.{Route}
 use Rattle.ff_net.specs.declared.net.Route.TheVariants.{By}
-use Rattle.ff_net.specs.Forms.{has_wrap, any_wrap, is_ordered}
-use Rattle.ff_net.specs.Good.{Good, AreLeaves, PlainNode, KeyedNode}
+use Rattle.ff_net.specs.Forms.{has_wrap, is_ordered}
+use Rattle.ff_net.specs.Good.{Good, PlainNode, KeyedNode}
 use Rattle.ff_net.specs.Meaning.{mean, mean_rejected}
 use Rattle.ff_net.specs.Places.{child}
 use Rattle.ff_net.specs.RuleTests.{is_node}
-use Rattle.ff_net.specs.Tree.{Tree, Trees, Leaf, Pipe, Comb, Farm, OFarm, A2a, Wrap, none, more}
+use Rattle.ff_net.specs.Tree.{Tree, A2a}
 use Rattle.ff_plan.specs.declared.kind.UnitKind.TheVariants.{Stage}
 use Rattle.ff_plan.specs.Histories.{all_rejected}
 use Rattle.ff_plan.specs.Laying.{copies, route_kind, lay, lay_sets}
+use Rattle.ff_plan.proofs.FormLaws.{same_in_order, node_no_wrap}
 use Rattle.ff_plan.proofs.Masters.{calm_of, NoMaster-lay}
 use Rattle.ff_plan.proofs.MeanPlain.{no_wrap_fine, mean_additive, mean_rejected_additive}
 use Rattle.ff_plan.proofs.Opens.{View, KnownOf, LawOf}
-use Rattle.ff_plan.proofs.Pipe.{Same-in_order}
 use Rattle.ff_plan.proofs.Routes.{AddsUp, AddsUp-additive, AddsUp-node, AddsUp-node_rejected}
 use Rattle.ff_plan.proofs.SetFlows.{Flows, flows, known_sets, all_rejected-sets}
 use Rattle.ff_plan.proofs.Shares.{Additive, total-weigh-share, total-weigh-additive}
 use Rattle.ff_plan.proofs.Totals.{total, total-same}
 
-module _ {N : Type 0} (b : Behaviour N) where
-  leaves_free : (ts : Trees N) → AreLeaves ts → any_wrap ts ≡ false
-  leaves_free none leaves = refl
-  leaves_free (more (Leaf o) ts) leaves = leaves_free ts leaves.1
-  leaves_free (more (Pipe us) ts) leaves = absurd (cc leaves.0)
-  leaves_free (more (Comb us) ts) leaves = absurd (cc leaves.0)
-  leaves_free (more (Farm n s w) ts) leaves = absurd (cc leaves.0)
-  leaves_free (more (OFarm n s w) ts) leaves = absurd (cc leaves.0)
-  leaves_free (more (A2a n l r k t) ts) leaves = absurd (cc leaves.0)
-  leaves_free (more (Wrap n w p) ts) leaves = absurd (cc leaves.0)
-
-  -- no wrap stands in a node
-  pub node_free : (t : Tree N) → Good b t → is_node t ≡ true → has_wrap t ≡ false
-  node_free (Leaf o) good is = refl
-  node_free (Comb ts) good is = leaves_free ts good.1
-  node_free (Pipe ts) good is = absurd (cc is)
-  node_free (Farm n s w) good is = absurd (cc is)
-  node_free (OFarm n s w) good is = absurd (cc is)
-  node_free (A2a n l r k t) good is = absurd (cc is)
-  node_free (Wrap n w p) good is = absurd (cc is)
-
-  right_is_node : (r : Route) (t : Tree N) → PlainNode b t ⊎ KeyedNode b r t → is_node t ≡ true
-  right_is_node r t (inl plain) = plain.0
-  right_is_node r t (inr keyed) = ap is_node keyed.2
+-- the right node of an all-to-all is one node, or several that run as one
+right_is_node : {N : Type 0} (b : Behaviour N) (r : Route) (t : Tree N) → PlainNode b t ⊎ KeyedNode b r t → is_node t ≡ true
+right_is_node b r t (inl plain) = plain.0
+right_is_node b r t (inr keyed) = ap is_node keyed.2
 
 module _ {N : Type 0} (b : Behaviour N) (m : ℕ) (v : View N) (at : List ℕ) (form : Tree N) (n : ℕ) (l : Tree N) (r : Route) (k : ℕ) (t : Tree N) (i o e second third fourth fifth : ℕ) where
   module _ (goes : Additive (mean b m l)) (rejects : Additive (mean_rejected b m l)) (adds : AddsUp r k (mean b m t)) (adds_rejected : AddsUp r k (mean_rejected b m t)) where
@@ -58,7 +38,7 @@ module _ {N : Type 0} (b : Behaviour N) (m : ℕ) (v : View N) (at : List ℕ) (
     left_together : (xs : List Rec) (flow : Flows b m v at form n l r k t i o e second third fourth fifth xs) (h : Rec → ℕ) → total n (λ j. weigh h (flow.left.yss j)) ≡ weigh h (mean b m l xs)
     left_together xs flow h =
         total-same n (λ j. weigh h (flow.left.yss j)) (λ j. weigh h (mean b m l (share flow.picks xs j)))
-        (λ j below. sym ((Same-in_order (is_ordered l) _ (flow.left.yss j) (flow.left.same j below)).by h))
+        (λ j below. sym ((same_in_order (is_ordered l) _ (flow.left.yss j) (flow.left.same j below)).by h))
         ∙ total-weigh-additive (mean b m l) goes flow.dealt.are h
 
     all_together : (xs : List Rec) (flow : Flows b m v at form n l r k t i o e second third fourth fifth xs) → Same (mean b m t (mean b m l xs)) flow.merged.ys
@@ -66,7 +46,7 @@ module _ {N : Type 0} (b : Behaviour N) (m : ℕ) (v : View N) (at : List ℕ) (
       by = λ h.
           sym (adds n flow.left.yss flow.middle.columns flow.middle.deals flow.middle.merges (mean b m l xs) flow.middle.are flow.middle.by (left_together xs flow) h)
           ∙ total-same k (λ j. weigh h (mean b m t (flow.middle.columns j))) (λ j. weigh h (share flow.merged.picks flow.merged.ys j))
-          (λ j below. (Same-in_order (is_ordered t) _ (flow.right.yss j) (flow.right.same j below)).by h ∙ ap (weigh h) (sym (flow.merged.parts j below)))
+          (λ j below. (same_in_order (is_ordered t) _ (flow.right.yss j) (flow.right.same j below)).by h ∙ ap (weigh h) (sym (flow.merged.parts j below)))
           ∙ total-weigh-share flow.merged.are h;
     }
 
@@ -85,8 +65,10 @@ module _ {N : Type 0} (b : Behaviour N) (m : ℕ) (v : View N) (at : List ℕ) (
 module _ {N : Type 0} (b : Behaviour N) (by_records : PlainGoesByRecords b) (by_counts : UnorderedGoesByCounts b) (by_keys : KeyedGoesByKeys b) (m : ℕ) where
   -- what the right node makes of the columns is together what it makes of all records
   adds_up : (r : Route) (k : ℕ) (t : Tree N) → 1 ≤ k → has_wrap t ≡ false → PlainNode b t ⊎ KeyedNode b r t → AddsUp r k (mean b m t) × AddsUp r k (mean_rejected b m t)
-  adds_up r k t some free (inl plain) =
-      (AddsUp-additive r k (mean b m t) (mean_additive b by_records m t plain.1 free), AddsUp-additive r k (mean_rejected b m t) (mean_rejected_additive b by_records m t plain.1 free))
+  adds_up r k t some free (inl plain) = (
+    AddsUp-additive r k (mean b m t) (mean_additive b by_records m t plain.1 free),
+    AddsUp-additive r k (mean_rejected b m t) (mean_rejected_additive b by_records m t plain.1 free),
+  )
   adds_up r k t some free (inr keyed) =
       let keys = by_keys keyed.0 keyed.1 keyed.3 in
       let counts = by_counts keyed.0 (λ ordered. absurd (cc (ordered, keyed.3))) in
@@ -95,13 +77,14 @@ module _ {N : Type 0} (b : Behaviour N) (by_records : PlainGoesByRecords b) (by_
       let P : Route → Tree N → Type 0 = λ way u. AddsUp way k (mean b m u) × AddsUp way k (mean_rejected b m u) in
       subst (λ way. P way t) (sym keyed.4) (subst (P (By keyed.1)) (sym keyed.2) (node_adds, rejected_adds))
 
+  -- the law, where each set's node has its own
   pub law_a2a : (v : View N) (n : ℕ) (l : Tree N) (r : Route) (k : ℕ) (t : Tree N) → LawOf b m v l → LawOf b m v t → Good b (A2a n l r k t) → LawOf b m v (A2a n l r k t)
   law_a2a v n l r k t law_l law_t good at i o e logs xs known from =
       let form : Tree N = A2a n l r k t in
       let node_l = good.3.0 in
       let node_t = right_is_node b r t good.4 in
-      let free_l = node_free b l good.5 node_l in
-      let free_t = node_free b t good.6 node_t in
+      let free_l = node_no_wrap b l node_l good.5 in
+      let free_t = node_no_wrap b t node_t good.6 in
       let free : has_wrap form ≡ false = or_from (has_wrap l) (has_wrap t) free_l free_t in
       let third = e + 2 * n in
       let fourth = third + n * k in
