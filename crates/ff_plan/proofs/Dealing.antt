@@ -1,7 +1,7 @@
 -- What deals and merges put on their edges: a deal the shares of what it takes, and a merge a list of which it took the shares.
-use Rattle.std.proofs.Common.{◌≡◌, ℕ, zero, suc, ◌+◌, ◌<◌, List, [], ◌∷◌, map, length, refl, ◌∙◌, sym, ap, subst}
+use Rattle.std.proofs.Common.{◌≡◌, ℕ, ◌+◌, ◌<◌, List, [], ◌∷◌, length, refl, ◌∙◌, sym, ap, subst}
 use Rattle.ff_rec.specs.Lines.{Rec}
-use Rattle.ff_rec.specs.Streams.{at, carried, items}
+use Rattle.ff_rec.specs.Streams.{carried, items}
 use Rattle.ff_node.specs.Behaviour.{Behaviour}
 use Rattle.ff_node.specs.Fits.{IsDealt, FitsMerge}
 use Rattle.ff_node.specs.Picks.{ArePicks, share, turns, by_key}
@@ -17,7 +17,7 @@ use Rattle.ff_plan.specs.Rows.{range, laid}
 use Rattle.ff_plan.proofs.Edges.{AllOn-range}
 use Rattle.ff_plan.proofs.Opens.{View, AllOn, KnownOf}
 use Rattle.ff_plan.proofs.Single.{items-carried}
-use Rattle.ff_plan.proofs.Units.{AllOn-one, listed, length-listed, map-listed, at-listed, length-range}
+use Rattle.ff_plan.proofs.Units.{AllOn-one, listed, map-listed, at-listed, length-range}
 
 -- each of `n` edges from `e` on may carry its share of `xs`
 pub record Deals {N : Type 0} (v : View N) (e n : ℕ) (picks : List ℕ) (xs : List Rec) : Type 0 where

@@ -1,10 +1,10 @@
 -- Lists on edges that are numbered in a row, and on edges that stand a step behind one another.
-use Rattle.std.proofs.Common.{◌≡◌, ℕ, zero, suc, ◌+◌, ◌*◌, ◌<◌, List, [], ◌∷◌, ◌++◌, map, length, refl, ◌∙◌, sym, ap, subst, append-nil, arith}
+use Rattle.std.proofs.Common.{◌≡◌, ℕ, zero, suc, ◌+◌, ◌*◌, ◌<◌, List, [], ◌∷◌, ◌++◌, length, refl, sym, ap, subst, append-nil, arith}
 use Rattle.ff_rec.specs.Streams.{at}
 use Rattle.ff_node.specs.Runs.{Message}
 use Rattle.ff_plan.specs.Rows.{range, stride}
 use Rattle.ff_plan.proofs.Opens.{AllOn}
-use Rattle.ff_plan.proofs.Units.{OnRange, listed, AllOn-one}
+use Rattle.ff_plan.proofs.Units.{OnRange, OnRange-AllOn, listed, at-listed, AllOn-one}
 
 pub length-stride : (step e n : ℕ) → length (stride step e n) ≡ n
 length-stride step e zero = refl
@@ -69,3 +69,6 @@ module _ (On : ℕ → List Message → Type 0) where
   OnRange-at e (suc n) f on (suc j) below =
       let same : suc e + j ≡ e + suc j = omega arith in
       subst (λ k. On k (f (suc j))) same (OnRange-at (suc e) n (λ k. f (suc k)) on.1 j (omega (arith, below)))
+
+  pub OnRange-each : (e n : ℕ) (f : ℕ → List Message) → ((j : ℕ) → j < n → On (e + j) (f j)) → OnRange On e n f
+  OnRange-each e n f each = OnRange-AllOn On e n (listed n f) f (AllOn-each e n f each) (at-listed n f)

@@ -24,17 +24,13 @@ use Rattle.ff_plan.specs.Laying.{deal_kind, lay, lay_copies}
 use Rattle.ff_plan.specs.Rows.{Laid, laid, range}
 use Rattle.ff_plan.proofs.Copies.{HaveAnswers, law_copies}
 use Rattle.ff_plan.proofs.Dealing.{Deals, Merges, deals_by_route, merges}
-use Rattle.ff_plan.proofs.Edges.{AllOn-each}
+use Rattle.ff_plan.proofs.Edges.{OnRange-each}
 use Rattle.ff_plan.proofs.Masters.{calm_of, NoMaster-lay}
 use Rattle.ff_plan.proofs.MeanPlain.{no_wrap_fine, mean_additive, mean_rejected_additive}
 use Rattle.ff_plan.proofs.Opens.{View, KnownOf, LawOf}
 use Rattle.ff_plan.proofs.FormLaws.{same_in_order}
 use Rattle.ff_plan.proofs.Shares.{total-weigh-additive, same_of_shares}
-use Rattle.ff_plan.proofs.Units.{OnRange, OnRange-AllOn, OnRange-map, AllOn-listed, listed, at-listed, length-range, EachUnit-append, EachUnit-one, all_rejected-append}
-
--- lists for edges in a row
-OnRange-each : (On : ℕ → List Message → Type 0) (e n : ℕ) (f : ℕ → List Message) → ((j : ℕ) → j < n → On (e + j) (f j)) → OnRange On e n f
-OnRange-each On e n f each = OnRange-AllOn On e n (listed n f) f (AllOn-each On e n f each) (at-listed n f)
+use Rattle.ff_plan.proofs.Units.{OnRange, OnRange-map, AllOn-listed, length-range, EachUnit-append, EachUnit-one, all_rejected-append}
 
 module _ {N : Type 0} (b : Behaviour N) where
   -- a deal rejects nothing

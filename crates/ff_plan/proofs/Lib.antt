@@ -33,3 +33,5 @@ mod WholeWraps
 mod CutWraps
 mod NetLaws
 mod Routes
+mod SetFlows
+mod A2a

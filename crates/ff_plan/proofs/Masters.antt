@@ -1,5 +1,6 @@
 -- Where no wrap stands in a network, none of its units is a master, so that nothing is over a limit.
-use Rattle.std.proofs.Common.{◌≡◌, ◌≢◌, ℕ, zero, suc, ◌+◌, ◌*◌, ◌-◌, ◌||◌, Bool, true, false, List, [], ◌∷◌, ◌++◌, refl}
+use Rattle.std.proofs.Common.{◌≡◌, ◌≢◌, ℕ, zero, suc, ◌+◌, ◌*◌, ◌-◌, false, List, [], ◌∷◌, ◌++◌}
+use Rattle.std.proofs.lemmas.Bool.{or_parts}
 use Rattle.ff_net.specs.declared.net.Sched.{Sched}
 use Rattle.ff_net.specs.declared.net.Sched.TheVariants.{Rr as InTurn, Od as OnDemand}
 use Rattle.ff_net.specs.declared.net.Route.{Route}
@@ -10,7 +11,7 @@ use Rattle.ff_net.specs.Logs.{Event}
 use Rattle.ff_net.specs.Places.{child}
 use Rattle.ff_net.specs.Tree.{Tree, Trees, Leaf, Pipe, Comb, Farm, OFarm, A2a, Wrap, none, more}
 use Rattle.ff_plan.specs.declared.kind.UnitKind.{UnitKind}
-use Rattle.ff_plan.specs.declared.kind.UnitKind.TheVariants.{Stage, DealRr, DealOd, DealBy, Merge, ODealRr, ODealOd, OMergeTurn, OMergePick, Master, Worker}
+use Rattle.ff_plan.specs.declared.kind.UnitKind.TheVariants.{Stage, DealRr, Merge, Master}
 use Rattle.ff_plan.specs.Histories.{EachUnit}
 use Rattle.ff_plan.specs.Laying.{deal_kind, odeal_kind, omerge_kind, route_kind, copies, lay_copies, row_deals, column_merges, lay, lay_parts}
 use Rattle.ff_plan.specs.Rows.{Laid, laid, range}
@@ -53,11 +54,6 @@ stage_is_none = λ h. absurd (cc h)
 
 turn_is_none : DealRr ≢ Master
 turn_is_none = λ h. absurd (cc h)
-
--- neither of two
-pub or-neither : (x y : Bool) → (x || y) ≡ false → (x ≡ false) × (y ≡ false)
-or-neither true y e = absurd (cc e)
-or-neither false y e = (refl, e)
 
 module _ {N : Type 0} where
   NoMaster-append : (ls ks : List (Laid N)) → NoMaster ls → NoMaster ks → NoMaster (ls ++ ks)
@@ -110,7 +106,7 @@ module _ {N : Type 0} where
 
     pub NoMaster-lay_parts : (ts : Trees N) (at : List ℕ) (k i o j e : ℕ) → any_wrap ts ≡ false → NoMaster (lay_parts at k ts i o j e)
     NoMaster-lay_parts none at k i o j e free = tt
-    NoMaster-lay_parts (more t none) at k i o j e free = NoMaster-lay t (child at k) i o e (or-neither (has_wrap t) false free).0
+    NoMaster-lay_parts (more t none) at k i o j e free = NoMaster-lay t (child at k) i o e (or_parts (has_wrap t) false free).0
     NoMaster-lay_parts (more t (more u us)) at k i o j e free =
-        let apart = or-neither (has_wrap t) (any_wrap (more u us)) free in
+        let apart = or_parts (has_wrap t) (any_wrap (more u us)) free in
         NoMaster-append _ _ (NoMaster-lay t (child at k) i j e apart.0) (NoMaster-lay_parts (more u us) at (k + 1) j o (suc j) (e + inner_edges t) apart.1)

@@ -1,6 +1,6 @@
 -- The middle of an all-to-all: each row is dealt to the columns by the route, and each column is merged. What a node makes of the
 -- columns is together what it makes of all records, if it goes by records or by the keys of the route.
-use Rattle.std.proofs.Common.{◌≡◌, ℕ, ◌+◌, ◌*◌, ◌<◌, ◌≤◌, List, [], ◌∷◌, refl, sym, ◌∙◌, subst, arith}
+use Rattle.std.proofs.Common.{◌≡◌, ℕ, ◌+◌, ◌*◌, ◌<◌, ◌≤◌, List, [], refl, sym, ◌∙◌, subst, arith}
 use Rattle.ff_rec.specs.Lines.{Rec}
 use Rattle.ff_rec.specs.Streams.{carried}
 use Rattle.ff_rec.specs.Weights.{weigh}
@@ -54,13 +54,13 @@ module _ {N : Type 0} (b : Behaviour N) (m : ℕ) (v : View N) (place : List ℕ
       → ((j : ℕ) → j < n → v.In (i + j) (carried (rows j))) → RowsDealt v r c n k rows
   rows_dealt Rr i c n k logs rows known from =
       let chosen : Chosen (λ j (picks : List ℕ). Deals v (c + j * k) k picks (rows j)) n = choose _ n [] (λ j below.
-          let row = known_row b m v place t (route_kind Rr) k i c n logs known j below in
-          (_, deals_in_turn b m v place t row.0 (i + j) (c + j * k) k (rows j) row.1 (from j below))) in
+      let row = known_row b m v place t (route_kind Rr) k i c n logs known j below in
+      (_, deals_in_turn b m v place t row.0 (i + j) (c + j * k) k (rows j) row.1 (from j below))) in
       record { deals = chosen.value; each = chosen.each; by = tt }
   rows_dealt Od i c n k logs rows known from =
       let chosen : Chosen (λ j (picks : List ℕ). Deals v (c + j * k) k picks (rows j)) n = choose _ n [] (λ j below.
-          let row = known_row b m v place t (route_kind Od) k i c n logs known j below in
-          deals_on_demand b m v place t row.0 (i + j) (c + j * k) k (rows j) row.1 (from j below)) in
+      let row = known_row b m v place t (route_kind Od) k i c n logs known j below in
+      deals_on_demand b m v place t row.0 (i + j) (c + j * k) k (rows j) row.1 (from j below)) in
       record { deals = chosen.value; each = chosen.each; by = tt }
   rows_dealt (By f) i c n k logs rows known from = record {
     deals = λ j. by_key f k (rows j);
@@ -77,7 +77,7 @@ module _ {N : Type 0} (b : Behaviour N) (m : ℕ) (v : View N) (place : List ℕ
       let column = known_column b m v place t n k c d k logs known j below in
       let moved : (i : ℕ) → c + i * k + j ≡ c + j + i * k = λ i. omega arith in
       let taken = AllOn-stride v.In k (c + j) n (λ i. carried (share (dealt.deals i) (rows i) j)) (λ i low.
-          subst (λ e. v.In e (carried (share (dealt.deals i) (rows i) j))) (moved i) (v.link _ _ ((dealt.each i low).out j below))) in
+      subst (λ e. v.In e (carried (share (dealt.deals i) (rows i) j))) (moved i) (v.link _ _ ((dealt.each i low).out j below))) in
       let given = merges b m v place t column.0 _ (d + j) n (λ i. share (dealt.deals i) (rows i) j) column.1 (length-stride k (c + j) n) taken in
       ((given.ys, given.picks), record { are = given.are; parts = given.parts; out = given.out })
 

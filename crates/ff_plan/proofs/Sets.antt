@@ -60,15 +60,19 @@ module _ {N : Type 0} (b : Behaviour N) (m : ℕ) (v : View N) (place : List ℕ
   known_row kind k i c (suc n) [] known j below = absurd known
   known_row kind k i c (suc n) (log ∷ logs) known zero below =
       let is_i : i ≡ i + 0 = omega arith in
-      let is_c : c ≡ c + 0 * k = omega arith in
-      (log, subst (λ e. KnownOf b m v kind (laid kind (e ∷ []) (range (c + 0 * k) k) place t) log) is_i
-      (subst (λ e. KnownOf b m v kind (laid kind (i ∷ []) (range e k) place t) log) is_c known.0))
+      let is_c : c ≡ c + 0 * k = omega arith in (
+        log,
+        subst (λ e. KnownOf b m v kind (laid kind (e ∷ []) (range (c + 0 * k) k) place t) log) is_i
+            (subst (λ e. KnownOf b m v kind (laid kind (i ∷ []) (range e k) place t) log) is_c known.0),
+      )
   known_row kind k i c (suc n) (log ∷ logs) known (suc j) below =
       let is_i : suc i + j ≡ i + suc j = omega arith in
       let is_c : c + k + j * k ≡ c + suc j * k = omega (arith, suc-times j k) in
-      let rest = known_row kind k (suc i) (c + k) n logs known.1 j (omega (arith, below)) in
-      (rest.0, subst (λ e. KnownOf b m v kind (laid kind (e ∷ []) (range (c + suc j * k) k) place t) rest.0) is_i
-      (subst (λ e. KnownOf b m v kind (laid kind ((suc i + j) ∷ []) (range e k) place t) rest.0) is_c rest.1))
+      let rest = known_row kind k (suc i) (c + k) n logs known.1 j (omega (arith, below)) in (
+        rest.0,
+        subst (λ e. KnownOf b m v kind (laid kind (e ∷ []) (range (c + suc j * k) k) place t) rest.0) is_i
+            (subst (λ e. KnownOf b m v kind (laid kind ((suc i + j) ∷ []) (range e k) place t) rest.0) is_c rest.1),
+      )
 
   -- the merge of column j
   pub known_column : (n k c d l : ℕ) (logs : List (List Event)) → Known b m v (column_merges place t n k c d l) logs → (j : ℕ) → j < l
@@ -77,15 +81,19 @@ module _ {N : Type 0} (b : Behaviour N) (m : ℕ) (v : View N) (place : List ℕ
   known_column n k c d (suc l) [] known j below = absurd known
   known_column n k c d (suc l) (log ∷ logs) known zero below =
       let is_c : c ≡ c + 0 = omega arith in
-      let is_d : d ≡ d + 0 = omega arith in
-      (log, subst (λ e. KnownOf b m v Merge (laid Merge (stride k e n) ((d + 0) ∷ []) place t) log) is_c
-      (subst (λ e. KnownOf b m v Merge (laid Merge (stride k c n) (e ∷ []) place t) log) is_d known.0))
+      let is_d : d ≡ d + 0 = omega arith in (
+        log,
+        subst (λ e. KnownOf b m v Merge (laid Merge (stride k e n) ((d + 0) ∷ []) place t) log) is_c
+            (subst (λ e. KnownOf b m v Merge (laid Merge (stride k c n) (e ∷ []) place t) log) is_d known.0),
+      )
   known_column n k c d (suc l) (log ∷ logs) known (suc j) below =
       let is_c : suc c + j ≡ c + suc j = omega arith in
       let is_d : suc d + j ≡ d + suc j = omega arith in
-      let rest = known_column n k (suc c) (suc d) l logs known.1 j (omega (arith, below)) in
-      (rest.0, subst (λ e. KnownOf b m v Merge (laid Merge (stride k e n) ((d + suc j) ∷ []) place t) rest.0) is_c
-      (subst (λ e. KnownOf b m v Merge (laid Merge (stride k (suc c + j) n) (e ∷ []) place t) rest.0) is_d rest.1))
+      let rest = known_column n k (suc c) (suc d) l logs known.1 j (omega (arith, below)) in (
+        rest.0,
+        subst (λ e. KnownOf b m v Merge (laid Merge (stride k e n) ((d + suc j) ∷ []) place t) rest.0) is_c
+            (subst (λ e. KnownOf b m v Merge (laid Merge (stride k (suc c + j) n) (e ∷ []) place t) rest.0) is_d rest.1),
+      )
 
 -- the deals and merges between the sets reject nothing
 module _ {N : Type 0} (b : Behaviour N) (place : List ℕ) (t : Tree N) (edge : ℕ → List Message) where
