@@ -3,7 +3,6 @@
 
 mod edge_list;
 mod kind;
-pub mod laws;
 mod layout;
 
 pub use edge_list::EdgeList;
