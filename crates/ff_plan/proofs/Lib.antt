@@ -1,1 +1,3 @@
 mod Opens
+pub mod Lefts
+pub mod LaidRows

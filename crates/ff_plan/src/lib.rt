@@ -2,8 +2,14 @@
 #![tactic(auto)]
 
 mod edge_list;
+mod edge_numbers;
+mod forms;
 mod kind;
+mod kinds;
+mod laying;
 mod layout;
+mod span;
+mod units;
 
 pub use edge_list::EdgeList;
 pub use kind::{Party, Queue, UnitKind};
