@@ -8,6 +8,7 @@ pub mod Logs
 pub mod Meaning
 pub mod Kept
 pub mod Places
+pub mod At
 pub mod RuleTests
 pub mod Rules
 pub mod Room

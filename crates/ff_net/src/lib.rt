@@ -1,6 +1,7 @@
 //! Networks of nodes: their forms, the rules that they have to keep, and what they mean on one thread.
 #![tactic(auto)]
 
+mod at;
 mod checked;
 mod copy;
 mod counts;

@@ -60,7 +60,7 @@ impl Path {
     }
 
     /// A copy, which takes no memory.
-    pub(crate) fn same(&self) -> Path
+    pub fn same(&self) -> Path
         ensures { result ≡ self.now }
     {
         Path {

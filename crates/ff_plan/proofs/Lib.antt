@@ -35,3 +35,6 @@ mod NetLaws
 mod Routes
 mod SetFlows
 mod A2a
+pub mod Lefts
+pub mod LaidRows
+pub mod LaidUnits

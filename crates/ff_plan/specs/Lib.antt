@@ -1,5 +1,6 @@
 pub mod Rows
 pub mod Laying
+pub mod AlikeRows
 pub mod Plans
 pub mod Histories
 pub mod PlanLaws

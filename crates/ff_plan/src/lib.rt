@@ -2,10 +2,19 @@
 #![tactic(auto)]
 
 mod edge_list;
+mod edge_numbers;
+mod edges;
+mod forms;
 mod kind;
-pub mod laws;
+mod kinds;
+mod laying;
 mod layout;
+mod on_demand;
+mod planning;
+mod span;
+mod units;
 
 pub use edge_list::EdgeList;
 pub use kind::{Party, Queue, UnitKind};
 pub use layout::{Edge, Layout, UnitRow};
+pub use planning::plan;

@@ -1,0 +1,189 @@
+// How a network is laid: its units in order, between the edge that it reads and the edge that it writes.
+ghost use Rattle.std.specs.Prelude.{◌≡◌, ◌+◌, ◌*◌, ◌-◌, ◌≤◌, ◌<◌, ◌++◌, map, length, if◌then◌else◌, OnOk, IfOk};
+ghost use Rattle.ff_net.specs.Counts.{count, depth, deepest, inner_edges, all_inner_edges, pick_edges};
+ghost use Rattle.ff_net.specs.Places.{child};
+ghost use Rattle.ff_net.specs.Tree.{tree_of, trees_of, Farm, OFarm};
+ghost use Rattle.ff_plan.specs.AlikeRows.{set_rows, wrap_rows};
+ghost use Rattle.ff_plan.specs.Laying.{lay, lay_parts, lay_copies};
+
+use crate::forms::{add_odeal, add_omerge, lay_sets, lay_stage, lay_wrap};
+use crate::kinds::{deal_kind, pick_edges, route_kind};
+use crate::span::Span;
+use crate::units::{add_deal, add_merge};
+use crate::{UnitKind, UnitRow};
+use ff_net::{Net, Path, Sched};
+use ff_rec::NoMemory;
+
+/// Lays a network that stands at this place, and tells the first number that is left for an edge.
+#[cycle(laying)]
+#[tactic(auto, using(crate::proofs::LaidRows::laid_rows))]
+pub(crate) fn lay<N>(
+    net: &Net<N>,
+    at: &Path,
+    span: Span,
+    units: &mut Vec<UnitRow>,
+) -> Result<u32, NoMemory>
+    requires room { length at.now + depth (tree_of net.now) ≤ 16 }
+    requires few { span.inner + inner_edges (tree_of net.now) ≤ 2048 }
+    ensures rows { OnOk result (units.new.items ≡ units.old.items
+        ++ map (λ l. l.row) (lay at.now (tree_of net.now) span.from span.to span.inner)) }
+    ensures next { IfOk result (λ next. next ≡ span.inner + inner_edges (tree_of net.now)) }
+{
+    match net {
+        Net::Leaf(_) | Net::Comb(_) => lay_stage(at, span, units),
+        Net::Pipe(parts) => lay_parts(parts, at, span, units),
+        Net::Farm {
+            workers,
+            sched,
+            worker,
+        } => lay_farm(*workers, *sched, worker, at, span, units),
+        Net::OFarm {
+            workers,
+            sched,
+            worker,
+        } => lay_ofarm(*workers, *sched, worker, at, span, units),
+        Net::A2a {
+            left,
+            route,
+            right,
+            ..
+        } => lay_sets(*left, route_kind(*route), *right, at, span, units),
+        Net::Wrap { workers, .. } => lay_wrap(*workers, at, span, units),
+    }
+}
+
+// Lays the parts of a pipe. The edges between them are numbered before those inside them.
+#[cycle(laying)]
+#[tactic(auto, using(crate::proofs::LaidRows::laid_rows))]
+fn lay_parts<N>(
+    parts: &[Net<N>],
+    at: &Path,
+    span: Span,
+    units: &mut Vec<UnitRow>,
+) -> Result<u32, NoMemory>
+    requires room { length at.now + deepest (trees_of parts.now) < 16 }
+    requires few { span.inner + ((count (trees_of parts.now) - 1) + all_inner_edges (trees_of parts.now)) ≤ 2048 }
+    ensures rows { OnOk result (units.new.items ≡ units.old.items
+        ++ map (λ l. l.row) (lay_parts at.now 1 (trees_of parts.now) span.from span.to span.inner
+        (span.inner + (count (trees_of parts.now) - 1)))) }
+    ensures next { IfOk result (λ next. next
+        ≡ span.inner + ((count (trees_of parts.now) - 1) + all_inner_edges (trees_of parts.now))) }
+{
+    let mut from = span.from;
+    let mut between = span.inner;
+    let mut inner = span.inner + between_parts(parts);
+    for (i, part) in parts.iter().enumerate() {
+        let to = out_of(i + 1 == parts.len(), span.to, between);
+        inner = lay(part, &at.down(i + 1), Span { from, to, inner }, units)?;
+        from = to;
+        between += 1;
+    }
+    Ok(inner)
+}
+
+// How many edges stand between the parts of a pipe.
+#[tactic(auto, using(ff_net::proofs::CountLaws::counted_parts))]
+fn between_parts<N>(parts: &[Net<N>]) -> u32
+    requires { count (trees_of parts.now) - 1 ≤ 2048 }
+    ensures { result ≡ count (trees_of parts.now) - 1 }
+{
+    parts.len().saturating_sub(1) as u32
+}
+
+// The edge that a part of a pipe writes: the last one that of the pipe, and each other one the next between two parts.
+fn out_of(is_last: bool, to: u32, between: u32) -> u32
+    ensures { result ≡ (if is_last then to else between) }
+{
+    if is_last { to } else { between }
+}
+
+// Lays a farm: its deal, its workers, and its merge.
+#[cycle(laying)]
+fn lay_farm<N>(
+    workers: u32,
+    sched: Sched,
+    worker: &Net<N>,
+    at: &Path,
+    span: Span,
+    units: &mut Vec<UnitRow>,
+) -> Result<u32, NoMemory>
+    requires room { length at.now + depth (tree_of worker.now) < 16 }
+    requires few { span.inner + (workers * inner_edges (tree_of worker.now) + 2 * workers) ≤ 2048 }
+    ensures rows { OnOk result (units.new.items ≡ units.old.items
+        ++ map (λ l. l.row) (lay at.now (Farm workers sched (tree_of worker.now)) span.from span.to span.inner)) }
+    ensures next { IfOk result (λ next. next
+        ≡ span.inner + (workers * inner_edges (tree_of worker.now) + 2 * workers)) }
+{
+    let tasks = span.inner;
+    let answers = tasks + workers;
+    add_deal(deal_kind(sched), span.from, tasks, workers, at, units)?;
+    let inside = Span {
+        from: tasks,
+        to: answers,
+        inner: tasks + 2 * workers,
+    };
+    let next = lay_workers(workers, worker, &at.down(1), inside, units)?;
+    add_merge(UnitKind::Merge, answers, workers, span.to, at, units)?;
+    Ok(next)
+}
+
+// Lays an ordered farm. On demand its deal tells its picks to its merge over an edge of their own.
+#[cycle(laying)]
+fn lay_ofarm<N>(
+    workers: u32,
+    sched: Sched,
+    worker: &Net<N>,
+    at: &Path,
+    span: Span,
+    units: &mut Vec<UnitRow>,
+) -> Result<u32, NoMemory>
+    requires room { length at.now + depth (tree_of worker.now) < 16 }
+    requires few { span.inner + (workers * inner_edges (tree_of worker.now) + 2 * workers + pick_edges sched) ≤ 2048 }
+    ensures rows { OnOk result (units.new.items ≡ units.old.items
+        ++ map (λ l. l.row) (lay at.now (OFarm workers sched (tree_of worker.now)) span.from span.to span.inner)) }
+    ensures next { IfOk result (λ next. next
+        ≡ span.inner + (workers * inner_edges (tree_of worker.now) + 2 * workers + pick_edges sched)) }
+{
+    let tasks = span.inner;
+    let answers = tasks + workers;
+    let picks = tasks + 2 * workers;
+    add_odeal(sched, span.from, tasks, workers, picks, at, units)?;
+    let inside = Span {
+        from: tasks,
+        to: answers,
+        inner: picks + pick_edges(sched),
+    };
+    let next = lay_workers(workers, worker, &at.down(1), inside, units)?;
+    add_omerge(sched, answers, workers, picks, span.to, at, units)?;
+    Ok(next)
+}
+
+// Lays the workers of a farm, worker k from edge `from` + k to edge `to` + k.
+#[cycle(laying)]
+fn lay_workers<N>(
+    workers: u32,
+    worker: &Net<N>,
+    at: &Path,
+    span: Span,
+    units: &mut Vec<UnitRow>,
+) -> Result<u32, NoMemory>
+    requires room { length at.now + depth (tree_of worker.now) ≤ 16 }
+    requires few { span.inner + workers * inner_edges (tree_of worker.now) ≤ 2048 }
+    requires ins { span.from + workers ≤ 4096 }
+    requires outs { span.to + workers ≤ 4096 }
+    ensures rows { OnOk result (units.new.items ≡ units.old.items
+        ++ map (λ l. l.row) (lay_copies (lay at.now (tree_of worker.now))
+        (inner_edges (tree_of worker.now)) span.from span.to span.inner workers)) }
+    ensures next { IfOk result (λ next. next ≡ span.inner + workers * inner_edges (tree_of worker.now)) }
+{
+    let mut inner = span.inner;
+    for k in 0..workers {
+        let inside = Span {
+            from: span.from + k,
+            to: span.to + k,
+            inner,
+        };
+        inner = lay(worker, at, inside, units)?;
+    }
+    Ok(inner)
+}
