@@ -25,3 +25,8 @@ mod NetLaws
 mod Routes
 mod SetFlows
 mod A2a
+mod Grouped
+mod PlainNodes
+mod GroupLaws
+mod ODealing
+mod OFarm
