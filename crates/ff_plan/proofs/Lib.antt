@@ -21,7 +21,6 @@ mod Copies
 mod Farm
 mod Views
 mod Runs
-mod NetLaws
 mod Routes
 mod SetFlows
 mod A2a
@@ -30,3 +29,4 @@ mod PlainNodes
 mod GroupLaws
 mod ODealing
 mod OFarm
+mod NetLaws
