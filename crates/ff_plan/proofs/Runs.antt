@@ -24,12 +24,12 @@ AllOn-edges edge [] (ms ∷ lists) all = absurd all
 AllOn-edges edge (e ∷ es) [] all = absurd all
 AllOn-edges edge (e ∷ es) (ms ∷ lists) all = ap₂ (λ first rest. first ∷ rest) (sym all.0) (AllOn-edges edge es lists all.1)
 
-AllOn-map : (edge : ℕ → List Message) (es : List ℕ) → AllOn (λ e ms. ms ≡ edge e) es (map edge es)
+pub AllOn-map : (edge : ℕ → List Message) (es : List ℕ) → AllOn (λ e ms. ms ≡ edge e) es (map edge es)
 AllOn-map edge [] = tt
 AllOn-map edge (e ∷ es) = (refl, AllOn-map edge es)
 
 -- lists that what stands on their edges goes on to
-AllOn-AllGoOn : (got : ℕ → List Message) (es : List ℕ) (lists : List (List Message)) → AllOn (λ e ms. GoesOn (unaborted (got e)) ms) es lists → AllGoOn (map got es) lists
+pub AllOn-AllGoOn : (got : ℕ → List Message) (es : List ℕ) (lists : List (List Message)) → AllOn (λ e ms. GoesOn (unaborted (got e)) ms) es lists → AllGoOn (map got es) lists
 AllOn-AllGoOn got [] [] all = tt
 AllOn-AllGoOn got [] (ms ∷ lists) all = absurd all
 AllOn-AllGoOn got (e ∷ es) [] all = absurd all
