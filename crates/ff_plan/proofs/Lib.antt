@@ -31,10 +31,15 @@ mod PlainWorkers
 mod Wraps
 mod WholeWraps
 mod CutWraps
-mod NetLaws
 mod Routes
 mod SetFlows
 mod A2a
 pub mod Lefts
 pub mod LaidRows
 pub mod LaidUnits
+mod Grouped
+mod PlainNodes
+mod GroupLaws
+mod ODealing
+mod OFarm
+mod NetLaws
