@@ -1,13 +1,13 @@
 -- The rows of units that are laid beside one another.
-use Rattle.std.proofs.Common.{◌≡◌, ℕ, zero, suc, ◌+◌, ◌*◌, List, [], ◌∷◌, ◌++◌, map, refl, ap, sym, ◌∙◌}
+use Rattle.std.proofs.Common.{◌≡◌, ℕ, zero, suc, ◌+◌, ◌*◌, List, [], ◌∷◌, ◌++◌, map, refl, ap}
 use Rattle.std.proofs.lemmas.List.{map-append}
 use Rattle.ff_net.specs.declared.net.Route.{Route}
 use Rattle.ff_net.specs.declared.net.Test.{Test}
 use Rattle.ff_net.specs.Places.{child}
 use Rattle.ff_net.specs.Tree.{Tree, A2a, Wrap, tree_of-Pipe, tree_of-Comb}
 use Rattle.ff_plan.specs.declared.kind.UnitKind.{UnitKind}
-use Rattle.ff_plan.specs.declared.kind.UnitKind.TheVariants.{Stage, DealRr, Merge, Master, Worker}
-use Rattle.ff_plan.specs.Rows.{Row, Laid, laid, range, stride}
+use Rattle.ff_plan.specs.declared.kind.UnitKind.TheVariants.{Merge, Master, Worker}
+use Rattle.ff_plan.specs.Rows.{Laid, range, stride}
 use Rattle.ff_plan.specs.Laying.{lay, copies, row_deals, column_merges, route_kind}
 use Rattle.ff_plan.specs.AlikeRows.{row_of, copied_rows, deal_rows, merge_rows, set_rows, wrap_rows}
 

@@ -1,10 +1,10 @@
 -- What is left of a row of things that are alike, when one more is done.
-use Rattle.std.proofs.Common.{◌≡◌, ℕ, zero, suc, ◌+◌, ◌-◌, ◌*◌, ◌<◌, ◌≤◌, ◌==◌, if◌then◌else◌, List, [], ◌∷◌, ◌++◌, map, refl, ap, sym, ◌∙◌, append_assoc, arith}
+use Rattle.std.proofs.Common.{◌≡◌, ℕ, suc, ◌+◌, ◌-◌, ◌*◌, ◌<◌, ◌≤◌, ◌==◌, if◌then◌else◌, List, [], ◌∷◌, ◌++◌, map, refl, ap, sym, ◌∙◌, append_assoc, arith}
 use Rattle.std.proofs.lemmas.Bool.{eq-eqb, ne_eqb}
 use Rattle.std.proofs.lemmas.List.{map-append, append-nil}
 use Rattle.ff_plan.specs.declared.kind.UnitKind.{UnitKind}
 use Rattle.ff_plan.specs.declared.kind.UnitKind.TheVariants.{Merge}
-use Rattle.ff_plan.specs.Rows.{Row, Laid, range, stride}
+use Rattle.ff_plan.specs.Rows.{Laid, range, stride}
 use Rattle.ff_net.specs.Counts.{count, inner_edges}
 use Rattle.ff_net.specs.Places.{child}
 use Rattle.ff_net.specs.Tree.{Tree, Trees, none, more}

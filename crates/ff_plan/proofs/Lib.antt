@@ -1,3 +1,4 @@
 mod Opens
 pub mod Lefts
 pub mod LaidRows
+pub mod LaidUnits

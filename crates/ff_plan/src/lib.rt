@@ -3,14 +3,18 @@
 
 mod edge_list;
 mod edge_numbers;
+mod edges;
 mod forms;
 mod kind;
 mod kinds;
 mod laying;
 mod layout;
+mod on_demand;
+mod planning;
 mod span;
 mod units;
 
 pub use edge_list::EdgeList;
 pub use kind::{Party, Queue, UnitKind};
 pub use layout::{Edge, Layout, UnitRow};
+pub use planning::plan;

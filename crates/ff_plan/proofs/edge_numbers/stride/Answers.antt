@@ -1,5 +1,5 @@
 -- One edge more is done.
-use Rattle.std.proofs.Common.{◌+◌, ◌-◌, ◌*◌, arith}
+use Rattle.std.proofs.Common.{◌+◌, ◌-◌, arith}
 use Rattle.ff_plan.specs.Rows.{stride}
 use Rattle.ff_plan.proofs.Lefts.{left-times, stride-left, done-one}
 use Rattle.ff_plan.proofs.edge_numbers.stride.Goals as goal

@@ -2,7 +2,7 @@
 use Rattle.std.proofs.Common.{rules, ◌≡◌, ◌==◌, if◌then◌else◌, suc, [], ◌∷◌, drop, length-append, length-drop, ◌+◌, ◌-◌, ◌*◌, ◌<◌, ◌≤◌, ◌++◌, map, length, OnOk, ap, sym, subst, ◌∙◌, arith}
 use Rattle.ff_net.specs.declared.net.Net.TheViews.{the_lemmas}
 use Rattle.ff_net.specs.Counts.{count, depth, deepest, inner_edges, all_inner_edges}
-use Rattle.ff_net.specs.Tree.{Pipe, tree_of, trees_of, tree_of-Pipe, tree_of-Comb}
+use Rattle.ff_net.specs.Tree.{Pipe, tree_of, trees_of, tree_of-Pipe}
 use Rattle.ff_net.specs.Places.{child}
 use Rattle.ff_net.proofs.CountLaws.{count-trees}
 use Rattle.ff_net.proofs.Search.{trees_of-drop}

@@ -1,8 +1,7 @@
-use Rattle.std.proofs.Common.{◌≡◌, ℕ, ◌+◌, ◌-◌, ◌*◌, ◌<◌, ◌≤◌, ◌++◌, map, drop, length}
-use Rattle.ff_net.specs.Counts.{count, depth, deepest, inner_edges, all_inner_edges}
+use Rattle.std.proofs.Common.{◌≡◌, ◌+◌, ◌-◌, ◌*◌, ◌≤◌, ◌++◌, map, drop}
+use Rattle.ff_net.specs.Counts.{count, deepest, inner_edges, all_inner_edges}
 use Rattle.ff_net.specs.Tree.{tree_of, trees_of}
 use Rattle.ff_plan.specs.Laying.{lay, lay_parts, lay_copies}
-use Rattle.ff_plan.specs.Rows.{Laid}
 use Rattle.ff_plan.proofs.laying.+laying.Given as goal
 
 -- the units so far with those of the parts that are left are all

@@ -1,5 +1,5 @@
 -- One deal more is done.
-use Rattle.std.proofs.Common.{◌+◌, ◌-◌, ◌*◌, [], ◌∷◌, ◌++◌, arith}
+use Rattle.std.proofs.Common.{◌+◌, ◌-◌, [], ◌∷◌, ◌++◌, arith}
 use Rattle.ff_plan.specs.AlikeRows.{row_of, deal_rows}
 use Rattle.ff_plan.specs.Rows.{range}
 use Rattle.ff_plan.proofs.Lefts.{left-times, deal_rows-left, done-one}
