@@ -14,7 +14,7 @@ use Rattle.ff_plan.specs.Laying.{lay, lay_copies}
 use Rattle.ff_plan.specs.Rows.{Laid}
 use Rattle.ff_plan.proofs.Opens.{View, Known, HasAnswer, LawOf}
 use Rattle.ff_plan.proofs.Totals.{total}
-use Rattle.ff_plan.proofs.Units.{OnRange, EachUnit-append, all_rejected-append}
+use Rattle.ff_plan.proofs.UnitLists.{OnRange, EachUnit-append, all_rejected-append}
 
 -- a sum from its first place on
 pub total-first : (n : ℕ) (f : ℕ → ℕ) → total (suc n) f ≡ f 0 + total n (λ j. f (suc j))

@@ -22,14 +22,14 @@ use Rattle.ff_net.specs.Tree.{Tree, Wrap}
 use Rattle.ff_plan.specs.declared.kind.UnitKind.TheVariants.{Worker}
 use Rattle.ff_plan.specs.Laying.{lay, copies}
 use Rattle.ff_plan.specs.Rows.{range}
-use Rattle.ff_plan.proofs.Edges.{AllOn-each}
+use Rattle.ff_plan.proofs.EdgeLists.{AllOn-each}
 use Rattle.ff_plan.proofs.Fronts.{items_or_marks, IsOpen-carried, GoesOn-closed, GoesOn-open, HasEos-unaborted, before-eos, carried-front, closed-front}
 use Rattle.ff_plan.proofs.LogAnswers.{IsSound}
 use Rattle.ff_plan.proofs.LogLevels.{IsOver-came, Within-results, IsAll-done}
 use Rattle.ff_plan.proofs.Opens.{View, Known, HasAnswer, Outcome, LawOf}
 use Rattle.ff_plan.proofs.PlainWorkers.{worker_sends, mean-worker}
 use Rattle.ff_plan.proofs.Runs.{AllOn-AllGoOn}
-use Rattle.ff_plan.proofs.Units.{listed, at-listed}
+use Rattle.ff_plan.proofs.UnitLists.{listed, at-listed}
 use Rattle.ff_plan.proofs.Views.{cut_view}
 use Rattle.ff_plan.proofs.Withins.{Within-rest}
 use Rattle.ff_plan.proofs.Wraps.{at-front, at-range, at-behind, workers_give, IsSound-groups}

@@ -14,10 +14,10 @@ use Rattle.ff_plan.specs.declared.kind.UnitKind.TheVariants.{DealRr, DealOd, Dea
 use Rattle.ff_plan.specs.Histories.{FitsKind}
 use Rattle.ff_plan.specs.Laying.{route_kind}
 use Rattle.ff_plan.specs.Rows.{range, laid}
-use Rattle.ff_plan.proofs.Edges.{AllOn-range}
+use Rattle.ff_plan.proofs.EdgeLists.{AllOn-range}
 use Rattle.ff_plan.proofs.Opens.{View, AllOn, KnownOf}
 use Rattle.ff_plan.proofs.Single.{items-carried}
-use Rattle.ff_plan.proofs.Units.{AllOn-one, listed, map-listed, at-listed, length-range}
+use Rattle.ff_plan.proofs.UnitLists.{AllOn-one, listed, map-listed, at-listed, length-range}
 
 -- each of `n` edges from `e` on may carry its share of `xs`
 pub record Deals {N : Type 0} (v : View N) (e n : ℕ) (picks : List ℕ) (xs : List Rec) : Type 0 where

@@ -24,13 +24,13 @@ use Rattle.ff_plan.specs.Laying.{deal_kind, lay, lay_copies}
 use Rattle.ff_plan.specs.Rows.{Laid, laid, range}
 use Rattle.ff_plan.proofs.Copies.{HaveAnswers, law_copies}
 use Rattle.ff_plan.proofs.Dealing.{Deals, Merges, deals_by_route, merges}
-use Rattle.ff_plan.proofs.Edges.{OnRange-each}
+use Rattle.ff_plan.proofs.EdgeLists.{OnRange-each}
 use Rattle.ff_plan.proofs.Masters.{calm_of, NoMaster-lay}
 use Rattle.ff_plan.proofs.MeanPlain.{no_wrap_fine, mean_additive, mean_rejected_additive}
 use Rattle.ff_plan.proofs.Opens.{View, KnownOf, LawOf}
 use Rattle.ff_plan.proofs.FormLaws.{same_in_order}
 use Rattle.ff_plan.proofs.Shares.{total-weigh-additive, same_of_shares}
-use Rattle.ff_plan.proofs.Units.{OnRange, OnRange-map, AllOn-listed, length-range, EachUnit-append, EachUnit-one, all_rejected-append}
+use Rattle.ff_plan.proofs.UnitLists.{OnRange, OnRange-map, AllOn-listed, length-range, EachUnit-append, EachUnit-one, all_rejected-append}
 
 module _ {N : Type 0} (b : Behaviour N) where
   -- a deal rejects nothing

@@ -28,7 +28,7 @@ use Rattle.ff_plan.proofs.Grouped.{joined, IsItemOrMark-grouped, items-grouped, 
 use Rattle.ff_plan.proofs.Opens.{View, IsOpen, Known}
 use Rattle.ff_plan.proofs.Sets.{lay-node}
 use Rattle.ff_plan.proofs.Single.{IsLine, node_rejected-group_of}
-use Rattle.ff_plan.proofs.Units.{AllOn-one, EachUnit-append, all_rejected-append}
+use Rattle.ff_plan.proofs.UnitLists.{AllOn-one, EachUnit-append, all_rejected-append}
 use Rattle.ff_plan.proofs.PlainNodes.{group_plain, line_of, mean-each, group_sends}
 
 -- the edge behind a network may carry what it makes of each group; in a whole run its units rejected what it rejects for all of them

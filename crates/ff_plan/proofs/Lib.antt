@@ -8,9 +8,9 @@ mod MeanSame
 mod Filters
 mod Keyed
 mod Messages
-mod Units
+mod UnitLists
 mod Single
-mod Edges
+mod EdgeLists
 mod Dealing
 mod Masters
 mod FormLaws
@@ -43,3 +43,4 @@ mod GroupLaws
 mod ODealing
 mod OFarm
 mod NetLaws
+mod NodeFacts

@@ -20,13 +20,13 @@ use Rattle.ff_plan.specs.declared.kind.UnitKind.TheVariants.{ODealRr, OMergeTurn
 use Rattle.ff_plan.specs.Histories.{FitsKind}
 use Rattle.ff_plan.specs.Laying.{odeal_kind, omerge_kind}
 use Rattle.ff_plan.specs.Rows.{range, laid}
-use Rattle.ff_plan.proofs.Edges.{AllOn-front, AllOn-behind, AllOn-append, OnRange-each}
+use Rattle.ff_plan.proofs.EdgeLists.{AllOn-front, AllOn-behind, AllOn-append, OnRange-each}
 use Rattle.ff_plan.proofs.Grouped.{marks-grouped}
 use Rattle.ff_plan.proofs.Opens.{View, AllOn, KnownOf}
 use Rattle.ff_plan.proofs.Shares.{total-weigh-share, gather-share, picked-share}
 use Rattle.ff_plan.proofs.Totals.{total, total-same}
 use Rattle.ff_plan.proofs.Copies.{total-first}
-use Rattle.ff_plan.proofs.Units.{OnRange, AllOn-one, AllOn-listed, listed, at-listed, length-range}
+use Rattle.ff_plan.proofs.UnitLists.{OnRange, AllOn-one, AllOn-listed, listed, at-listed, length-range}
 
 -- how the merge learns the picks: they are in turn, or stand on edge `p`
 abbrev pub TellsPicks : (ℕ → List Message → Type 0) → Sched → ℕ → ℕ → List Rec → List ℕ → Type 0

@@ -26,7 +26,7 @@ use Rattle.ff_plan.specs.Laying.{odeal_kind, omerge_kind, lay, lay_copies}
 use Rattle.ff_plan.specs.Rows.{Laid, laid, range}
 use Rattle.ff_plan.proofs.Carries.{in_order-≡}
 use Rattle.ff_plan.proofs.Copies.{total-first}
-use Rattle.ff_plan.proofs.Edges.{OnRange-at, OnRange-each}
+use Rattle.ff_plan.proofs.EdgeLists.{OnRange-at, OnRange-each}
 use Rattle.ff_plan.proofs.FormLaws.{pipeline_no_wrap}
 use Rattle.ff_plan.proofs.Grouped.{joined, marked-grouped, joined-ones}
 use Rattle.ff_plan.proofs.GroupLaws.{groups_of}
@@ -37,7 +37,7 @@ use Rattle.ff_plan.proofs.Opens.{View, Known, KnownOf, LawOf}
 use Rattle.ff_plan.proofs.PlainNodes.{mean-each}
 use Rattle.ff_plan.proofs.Shares.{total-weigh-additive}
 use Rattle.ff_plan.proofs.Totals.{total, total-same}
-use Rattle.ff_plan.proofs.Units.{OnRange, EachUnit-append, EachUnit-one, all_rejected-append}
+use Rattle.ff_plan.proofs.UnitLists.{OnRange, EachUnit-append, EachUnit-one, all_rejected-append}
 
 -- network j gives what it makes of each of its groups, on edge o + j; in a whole run they rejected together what each of them rejects
 pub record GiveGroups {N : Type 0} (b : Behaviour N) (v : View N) (send reject : List Rec → List Rec) (ls : List (Laid N)) (o n : ℕ) (gss : ℕ → List (List Rec)) : Type 0 where

@@ -17,7 +17,7 @@ use Rattle.ff_plan.specs.Laying.{lay, lay_parts}
 use Rattle.ff_plan.specs.Rows.{Laid}
 use Rattle.ff_plan.proofs.Carries.{Carry, carry}
 use Rattle.ff_plan.proofs.Opens.{View, KnownOf, Known, Outcome, LawOf}
-use Rattle.ff_plan.proofs.Units.{AreSplit, EachUnit-append, EachUnit-has_log, all_rejected-append}
+use Rattle.ff_plan.proofs.UnitLists.{AreSplit, EachUnit-append, EachUnit-has_log, all_rejected-append}
 
 or-nothing : (a : Bool) → a ≡ (a || false)
 or-nothing true = refl

@@ -15,7 +15,7 @@ use Rattle.ff_net.specs.Tree.{Tree}
 use Rattle.ff_plan.specs.Laying.{row_deals, column_merges, route_kind}
 use Rattle.ff_plan.proofs.Columns.{AreColumns, total-weigh-columns, Same-column-by_key}
 use Rattle.ff_plan.proofs.Dealing.{Deals, deals_in_turn, deals_on_demand, deals_by_key, merges}
-use Rattle.ff_plan.proofs.Edges.{AllOn-stride, length-stride}
+use Rattle.ff_plan.proofs.EdgeLists.{AllOn-stride, length-stride}
 use Rattle.ff_plan.proofs.Keyed.{keyed_places}
 use Rattle.ff_plan.proofs.Opens.{View, Known}
 use Rattle.ff_plan.proofs.Sets.{Chosen, choose, known_row, known_column}

@@ -14,7 +14,7 @@ use Rattle.ff_plan.specs.PlanLaws.{Answered, WholeRuns, BeginsAnswer, CutRuns}
 use Rattle.ff_plan.specs.Rows.{Laid, laid}
 use Rattle.ff_plan.proofs.Messages.{GoesOn-items}
 use Rattle.ff_plan.proofs.Opens.{View, AllOn, IsOpen, KnownOf, Known, Outcome, LawOf}
-use Rattle.ff_plan.proofs.Units.{EachUnit-map}
+use Rattle.ff_plan.proofs.UnitLists.{EachUnit-map}
 use Rattle.ff_plan.proofs.Views.{whole_view, cut_view}
 
 -- lists that are those of their edges

@@ -18,12 +18,12 @@ use Rattle.ff_plan.specs.Laying.{copies, row_deals, column_merges, route_kind, l
 use Rattle.ff_plan.specs.Rows.{Laid, laid, range}
 use Rattle.ff_plan.proofs.Copies.{HaveAnswers, law_copies}
 use Rattle.ff_plan.proofs.Dealing.{Deals, Merges, deals_in_turn, merges}
-use Rattle.ff_plan.proofs.Edges.{OnRange-at, OnRange-each, AllOn-each}
+use Rattle.ff_plan.proofs.EdgeLists.{OnRange-at, OnRange-each, AllOn-each}
 use Rattle.ff_plan.proofs.MeanPlain.{no_wrap_fine}
 use Rattle.ff_plan.proofs.Opens.{View, Known, KnownOf, LawOf}
 use Rattle.ff_plan.proofs.Routes.{AreRouted, routed}
 use Rattle.ff_plan.proofs.Sets.{lay_copies-node, rejected-row_deals, rejected-column_merges}
-use Rattle.ff_plan.proofs.Units.{OnRange, EachUnit-append, EachUnit-one, all_rejected-append, length-range}
+use Rattle.ff_plan.proofs.UnitLists.{OnRange, EachUnit-append, EachUnit-one, all_rejected-append, length-range}
 
 -- a set is its node side by side
 set_answers : {N : Type 0} (b : Behaviour N) (m : ℕ) (v : View N) (t : Tree N) → is_node t ≡ true → has_wrap t ≡ false → LawOf b m v t

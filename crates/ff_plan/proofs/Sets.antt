@@ -13,7 +13,7 @@ use Rattle.ff_plan.specs.Histories.{all_rejected}
 use Rattle.ff_plan.specs.Laying.{copies, row_deals, column_merges, route_kind, lay, lay_copies}
 use Rattle.ff_plan.specs.Rows.{Laid, laid, range, stride}
 use Rattle.ff_plan.proofs.Copies.{onto}
-use Rattle.ff_plan.proofs.Edges.{suc-times}
+use Rattle.ff_plan.proofs.EdgeLists.{suc-times}
 use Rattle.ff_plan.proofs.Opens.{View, Known, KnownOf}
 
 -- a value for each place, all at once

@@ -19,7 +19,7 @@ use Rattle.ff_plan.specs.Rows.{Laid, laid}
 use Rattle.ff_plan.proofs.Carries.{in_order-≡}
 pub use Rattle.ff_plan.proofs.Messages.{items-carried}
 use Rattle.ff_plan.proofs.Opens.{View, IsOpen, Known, Outcome, LawOf}
-use Rattle.ff_plan.proofs.Units.{AllOn-one}
+use Rattle.ff_plan.proofs.UnitLists.{AllOn-one}
 
 -- a network means its nodes one behind another, and no wrap is over its limit
 pub record IsLine {N : Type 0} (b : Behaviour N) (m : ℕ) (t : Tree N) : Type 0 where

@@ -18,7 +18,7 @@ use Rattle.ff_plan.specs.Histories.{group_of, all_rejected}
 use Rattle.ff_plan.specs.Laying.{copies}
 use Rattle.ff_plan.specs.Rows.{laid, range}
 use Rattle.ff_plan.proofs.Copies.{total-first}
-use Rattle.ff_plan.proofs.Edges.{AllOn-front, AllOn-behind}
+use Rattle.ff_plan.proofs.EdgeLists.{AllOn-front, AllOn-behind}
 use Rattle.ff_plan.proofs.Fronts.{grouped-map, grouped-front}
 use Rattle.ff_plan.proofs.LogAnswers.{IsSound}
 use Rattle.ff_plan.proofs.LogCounts.{got_from-length}
@@ -28,7 +28,7 @@ use Rattle.ff_plan.proofs.Opens.{View, IsOpen, Known}
 use Rattle.ff_plan.proofs.PlainWorkers.{worker_sends, worker_rejects}
 use Rattle.ff_plan.proofs.Runs.{AllOn-map}
 use Rattle.ff_plan.proofs.Totals.{total}
-use Rattle.ff_plan.proofs.Units.{AllOn-one}
+use Rattle.ff_plan.proofs.UnitLists.{AllOn-one}
 
 -- the list of the edge with number j of a row of edges, and of the one behind them
 pub at-front : (edge : ℕ → List Message) (e n : ℕ) (es : List ℕ) (j : ℕ) → j < n → at (map edge (range e n ++ es)) j ≡ edge (e + j)

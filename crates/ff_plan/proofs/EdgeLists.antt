@@ -4,7 +4,7 @@ use Rattle.ff_rec.specs.Streams.{at}
 use Rattle.ff_node.specs.Runs.{Message}
 use Rattle.ff_plan.specs.Rows.{range, stride}
 use Rattle.ff_plan.proofs.Opens.{AllOn}
-use Rattle.ff_plan.proofs.Units.{OnRange, OnRange-AllOn, listed, at-listed, AllOn-one}
+use Rattle.ff_plan.proofs.UnitLists.{OnRange, OnRange-AllOn, listed, at-listed, AllOn-one}
 
 pub length-stride : (step e n : ℕ) → length (stride step e n) ≡ n
 length-stride step e zero = refl
