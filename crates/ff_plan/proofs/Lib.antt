@@ -44,3 +44,8 @@ mod ODealing
 mod OFarm
 mod NetLaws
 mod NodeFacts
+pub mod Standing
+pub mod Ports
+pub mod Ranges
+pub mod Weighed
+pub mod JoinedUnits
