@@ -6,8 +6,9 @@ use Rattle.ff_io.specs.Bytes.{AppendsPrefix}
 use Rattle.ff_io.specs.Files.{KeepsAll}
 use Rattle.ff_net.specs.Tree.{Tree}
 use Rattle.ff_ops.specs.Operation.{OpState}
+use Rattle.ff_plan.specs.Plans.{rows_of}
 use Rattle.ff_text.specs.NetPrinting.{printed_described}
-use Rattle.ff_text.specs.PlanPrinting.{printed_plan}
+use Rattle.ff_text.specs.PlanText.{printed_units}
 use Rattle.ff_top.specs.Outside.{Outside, count_by}
 use Rattle.ff_top.specs.Texts.{version}
 use Rattle.ff_top.specs.declared.print.Form.{Form}
@@ -18,7 +19,7 @@ use Rattle.ff_top.specs.declared.print.PrintFault.TheVariants.{Write, NoMemory}
 -- what is written of a network: its printed form and a newline, or the lines of its plan
 abbrev pub printed : Form → Tree OpState → List ℕ
 printed Network t = printed_described version t ++ 10 ∷ []
-printed Plan t = printed_plan t
+printed Plan t = printed_units t 0 (rows_of t)
 
 -- how often the output had failed after a print that ended so
 abbrev pub print_output : ℕ → PrintFault → ℕ
