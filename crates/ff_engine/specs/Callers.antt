@@ -1,7 +1,7 @@
 -- The calling thread's ends of a line of rings, and how it goes on.
 use Rattle.std.specs.Prelude.{◌≡◌, ℕ, List, [], ◌∷◌, ◌++◌, ◌⊎◌, Option, None, Some, Result, OnOk, OnErr}
 use Rattle.std.specs.Io.KnownBytes.{Appends}
-use Rattle.ff_rec.specs.Lines.{Rec, text}
+use Rattle.ff_rec.specs.Lines.{text}
 use Rattle.ff_rec.specs.Streams.{items}
 use Rattle.ff_rec.specs.declared.msg.Msg.TheVariants.{Eos, Abort}
 use Rattle.ff_node.specs.Runs.{Message}

@@ -2,7 +2,7 @@
 use Rattle.std.proofs.Common.{ap, ◌∙◌, Err}
 use Rattle.std.proofs.lemmas.Result.{err_from_is_err_and}
 use Rattle.ff_engine.specs.Seen.{caller_of}
-use Rattle.ff_engine.proofs.Callings.{GoesOn-behind, GoesOn-broken, Moves-trans, SameRings-trans}
+use Rattle.ff_engine.proofs.Callings.{GoesOn-broken, Moves-trans, SameRings-trans}
 use Rattle.ff_engine.proofs.caller.Caller.take_ready.Goals as goal
 
 pub loop-taken-preserved : goal.loop-taken-preserved
