@@ -1,5 +1,5 @@
 -- The units of a good network are joined as a plan is.
-use Rattle.std.proofs.Common.{◌≡◌, ◌≢◌, ◌≤◌, ◌<◌, ℕ, zero, suc, ◌+◌, List, [], ◌∷◌, ◌++◌, map, refl, ap, sym, ◌∙◌, arith}
+use Rattle.std.proofs.Common.{◌≡◌, ◌≤◌, ℕ, ◌+◌, List, [], ◌∷◌, map, refl, ◌∙◌, arith}
 use Rattle.ff_node.specs.Behaviour.{Behaviour}
 use Rattle.ff_rec.proofs.WeightLaws.{weigh-append, weigh-map}
 use Rattle.ff_rec.specs.Weights.{weigh}
@@ -11,6 +11,7 @@ use Rattle.ff_plan.specs.Plans.{rows_of}
 use Rattle.ff_plan.specs.Rows.{Row, Laid, range}
 use Rattle.ff_plan.specs.WiringLaws.{unit_ins, unit_outs, all_ins, all_outs, IsJoined}
 use Rattle.ff_plan.proofs.LaidUnits.{length-rows_of}
+use Rattle.ff_plan.proofs.Loopless.{no_loop}
 use Rattle.ff_plan.proofs.Ports.{one_at, other_at, joined, each_once, joints, once_in}
 use Rattle.ff_plan.proofs.Ranges.{range-cut}
 use Rattle.ff_plan.proofs.Weighed.{ins-lay, outs-lay}
@@ -50,4 +51,5 @@ module _ {N : Type 0} (b : Behaviour N) (t : Tree N) (good : Good b t) where
     written = λ e within differ.
         joined e (unit_outs (rows_of t))
         (let here : 1 ≤ joints e (unit_outs (rows_of t)) = omega (arith, units_outs (one_at e), all_edges (one_at e), once_in e (edges t) within, other_at e 0 differ) in here);
+    apart = no_loop t;
   }

@@ -49,3 +49,5 @@ pub mod Ports
 pub mod Ranges
 pub mod Weighed
 pub mod JoinedUnits
+pub mod Among
+pub mod Loopless

@@ -1,10 +1,10 @@
 -- Ports by their numbers, where it is known how often each edge is joined to one.
-use Rattle.std.proofs.Common.{◌≡◌, ◌≢◌, ℕ, zero, suc, ◌+◌, ◌<◌, ◌≤◌, ◌==◌, if◌then◌else◌, true, false, List, [], ◌∷◌, length, get_or, refl, ap, sym, ◌∙◌, inl, inr, arith}
+use Rattle.std.proofs.Common.{◌≡◌, ◌≢◌, ℕ, zero, suc, ◌+◌, ◌<◌, ◌≤◌, ◌==◌, if◌then◌else◌, true, false, List, [], ◌∷◌, length, get_or, refl, ap, sym, inl, inr, arith}
 use Rattle.std.proofs.lemmas.Bool.{eq-eqb, ne_eqb}
 use Rattle.std.proofs.lemmas.Bool.Decides.{eqb_tells}
 use Rattle.ff_rec.specs.Weights.{weigh}
 use Rattle.ff_plan.specs.Rows.{range}
-use Rattle.ff_plan.specs.WiringLaws.{ports_at, IsPort, Joined, EachOnce}
+use Rattle.ff_plan.specs.WiringLaws.{ports_at, Joined, EachOnce}
 
 -- 1 at this number, and 0 at any other
 abbrev pub one_at : ℕ → ℕ → ℕ
@@ -28,8 +28,8 @@ range-below x e zero below = refl
 range-below x e (suc n) below =
     let later : x < suc e = omega arith in
     elim (eqb_tells e x) [
-    | inl same ↦ absurd (omega (arith, same.1))
-    | inr differ ↦ omega (arith, one_at-false x e differ.0, range-below x (suc e) n later)
+      | inl same ↦ absurd (omega (arith, same.1))
+      | inr differ ↦ omega (arith, one_at-false x e differ.0, range-below x (suc e) n later)
     ]
 
 above : (e x : ℕ) → e ≤ x → e ≢ x → suc e ≤ x
@@ -39,13 +39,13 @@ range-inside : (x e n : ℕ) → e ≤ x → x < e + n → weigh (one_at x) (ran
 range-inside x e zero from to = absurd (omega arith)
 range-inside x e (suc n) from to = elim (eqb_tells e x) [
   | inl same ↦
-    let past : x < suc e = omega (arith, same.1) in
-    omega (arith, one_at-true x e same.0, range-below x (suc e) n past)
+      let past : x < suc e = omega (arith, same.1) in
+      omega (arith, one_at-true x e same.0, range-below x (suc e) n past)
   | inr differ ↦
-    let beyond : suc e ≤ x = above e x from differ.1 in
-    let within : x < suc e + n = omega arith in
-    omega (arith, one_at-false x e differ.0, range-inside x (suc e) n beyond within)
-  ]
+      let beyond : suc e ≤ x = above e x from differ.1 in
+      let within : x < suc e + n = omega arith in
+      omega (arith, one_at-false x e differ.0, range-inside x (suc e) n beyond within)
+]
 
 pub once_in : (x n : ℕ) → x < n → weigh (one_at x) (range 0 n) ≡ 1
 once_in x n within =
@@ -57,21 +57,21 @@ range-once : (x e n : ℕ) → weigh (one_at x) (range e n) ≤ 1
 range-once x e zero = omega arith
 range-once x e (suc n) = elim (eqb_tells e x) [
   | inl same ↦
-    let past : x < suc e = omega (arith, same.1) in
-    omega (arith, one_at-true x e same.0, range-below x (suc e) n past)
+      let past : x < suc e = omega (arith, same.1) in
+      omega (arith, one_at-true x e same.0, range-below x (suc e) n past)
   | inr differ ↦ omega (arith, one_at-false x e differ.0, range-once x (suc e) n)
-  ]
+]
 
 range-reached : (x e n : ℕ) → 1 ≤ weigh (one_at x) (range e n) → x < e + n
 range-reached x e zero some = absurd (omega arith)
 range-reached x e (suc n) some = elim (eqb_tells e x) [
   | inl same ↦ omega (arith, same.1)
   | inr differ ↦
-    let zero_here = one_at-false x e differ.0 in
-    let later : 1 ≤ weigh (one_at x) (range (suc e) n) = omega (arith, zero_here, some) in
-    let reached = range-reached x (suc e) n later in
-    omega (arith, reached)
-  ]
+      let zero_here = one_at-false x e differ.0 in
+      let later : 1 ≤ weigh (one_at x) (range (suc e) n) = omega (arith, zero_here, some) in
+      let reached = range-reached x (suc e) n later in
+      omega (arith, reached)
+]
 
 -- how often a number stands in a list
 count-one : (x : ℕ) (xs : List ℕ) (i : ℕ) → i < length xs → get_or xs i 0 ≡ x → 1 ≤ weigh (one_at x) xs
@@ -100,11 +100,11 @@ find-one x [] some = absurd (omega arith)
 find-one x (y ∷ ys) some = elim (eqb_tells y x) [
   | inl same ↦ (zero, omega arith, same.1)
   | inr differ ↦
-    let zero_here = one_at-false x y differ.0 in
-    let later : 1 ≤ weigh (one_at x) ys = omega (arith, zero_here, some) in
-    let found = find-one x ys later in
-    (suc found.0, omega (arith, found.1), found.2)
-  ]
+      let zero_here = one_at-false x y differ.0 in
+      let later : 1 ≤ weigh (one_at x) ys = omega (arith, zero_here, some) in
+      let found = find-one x ys later in
+      (suc found.0, omega (arith, found.1), found.2)
+]
 
 -- how often an edge is joined to a port
 abbrev pub joints : ℕ → List (List ℕ) → ℕ
@@ -137,14 +137,14 @@ pub joined : (x : ℕ) (ports : List (List ℕ)) → 1 ≤ joints x ports → Jo
 joined x [] some = absurd (omega arith)
 joined x (xs ∷ ports) some = elim (weigh (one_at x) xs) as (λ n. weigh (one_at x) xs ≡ n → Joined (xs ∷ ports) x) [
   | zero ↦ λ (none : weigh (one_at x) xs ≡ zero).
-    let later : 1 ≤ joints x ports = omega (arith, none, some) in
-    let found = joined x ports later in
-    record { party = suc found.party; port = found.port; at = record { party = omega (arith, found.at.party); port = found.at.port; edge = found.at.edge } }
+      let later : 1 ≤ joints x ports = omega (arith, none, some) in
+      let found = joined x ports later in
+      record { party = suc found.party; port = found.port; at = record { party = omega (arith, found.at.party); port = found.at.port; edge = found.at.edge } }
   | suc n ↦ λ (here : weigh (one_at x) xs ≡ suc n).
-    let one : 1 ≤ weigh (one_at x) xs = omega (arith, here) in
-    let found = find-one x xs one in
-    record { party = zero; port = found.0; at = record { party = omega arith; port = found.1; edge = found.2 } }
-  ] refl
+      let one : 1 ≤ weigh (one_at x) xs = omega (arith, here) in
+      let found = find-one x xs one in
+      record { party = zero; port = found.0; at = record { party = omega arith; port = found.1; edge = found.2 } }
+] refl
 
 -- ports to which each of so many edges is joined once
 pub each_once : (ports : List (List ℕ)) (edges : ℕ) → ((h : ℕ → ℕ) → weigh (λ xs. weigh h xs) ports ≡ weigh h (range 0 edges)) → EachOnce ports edges
@@ -158,11 +158,11 @@ each_once ports edges weighed = record {
       let apart : (p ≡ q → i ≡ j → ⊥) → ⊥ =
       λ (differ : p ≡ q → i ≡ j → ⊥). omega (arith, most, joints-two e ports p q i j one.party two.party one.port two.port one.edge two.edge differ) in
       elim (eqb_tells p q) [
-      | inl same ↦ elim (eqb_tells i j) [
-        | inl also ↦ (same.1, also.1)
-        | inr differ ↦ absurd (apart (λ (s : p ≡ q) (t : i ≡ j). differ.1 t))
+        | inl same ↦ elim (eqb_tells i j) [
+          | inl also ↦ (same.1, also.1)
+          | inr differ ↦ absurd (apart (λ (s : p ≡ q) (t : i ≡ j). differ.1 t))
         ]
-      | inr differ ↦ absurd (apart (λ (s : p ≡ q) (t : i ≡ j). differ.1 s))
+        | inr differ ↦ absurd (apart (λ (s : p ≡ q) (t : i ≡ j). differ.1 s))
       ];
   each = λ e within.
       let one : 1 ≤ joints e ports = omega (arith, weighed (one_at e), once_in e edges within) in

@@ -1,5 +1,5 @@
 -- What the numbers in ranges, rows and columns weigh.
-use Rattle.std.proofs.Common.{◌≡◌, ℕ, zero, suc, ◌+◌, ◌*◌, List, [], ◌∷◌, refl, ap, ◌∙◌, arith}
+use Rattle.std.proofs.Common.{◌≡◌, ℕ, zero, suc, ◌+◌, ◌*◌, refl, ap, arith}
 use Rattle.ff_rec.specs.Weights.{weigh}
 use Rattle.ff_plan.specs.Rows.{range, stride}
 
@@ -45,9 +45,12 @@ pub farm-cut : (h : ℕ → ℕ) (e n p w : ℕ) → weigh h (range e (n * w + 2
 farm-cut h e n p w =
     let all : n * w + 2 * n + p ≡ n + (n + (p + n * w)) = omega arith in
     let answers : e + 2 * n ≡ e + n + n = omega arith in
-    omega (arith, range-cut h e (e + n) n (n + (p + n * w)) (n * w + 2 * n + p) all refl,
+    omega (
+      arith,
+      range-cut h e (e + n) n (n + (p + n * w)) (n * w + 2 * n + p) all refl,
       range-cut h (e + n) (e + 2 * n) n (p + n * w) (n + (p + n * w)) refl answers,
-      range-cut h (e + 2 * n) (e + 2 * n + p) p (n * w) (p + n * w) refl refl)
+      range-cut h (e + 2 * n) (e + 2 * n + p) p (n * w) (p + n * w) refl refl,
+    )
 
 pub plain-cut : (h : ℕ → ℕ) (e n w : ℕ) → weigh h (range e (n * w + 2 * n)) ≡ weigh h (range e n) + (weigh h (range (e + n) n) + weigh h (range (e + 2 * n) (n * w)))
 plain-cut h e n w =
@@ -62,7 +65,10 @@ pub sets-cut : (h : ℕ → ℕ) (e n m : ℕ) → weigh h (range e (2 * n + n *
 sets-cut h e n m =
     let all : 2 * n + n * m + 2 * m ≡ n + (n + (n * m + (m + m))) = omega arith in
     let rows : e + 2 * n ≡ e + n + n = omega arith in
-    omega (arith, range-cut h e (e + n) n (n + (n * m + (m + m))) (2 * n + n * m + 2 * m) all refl,
+    omega (
+      arith,
+      range-cut h e (e + n) n (n + (n * m + (m + m))) (2 * n + n * m + 2 * m) all refl,
       range-cut h (e + n) (e + 2 * n) n (n * m + (m + m)) (n + (n * m + (m + m))) refl rows,
       range-cut h (e + 2 * n) (e + 2 * n + n * m) (n * m) (m + m) (n * m + (m + m)) refl refl,
-      range-cut h (e + 2 * n + n * m) (e + 2 * n + n * m + m) m m (m + m) refl refl)
+      range-cut h (e + 2 * n + n * m) (e + 2 * n + n * m + m) m m (m + m) refl refl,
+    )

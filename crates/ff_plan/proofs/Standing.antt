@@ -1,5 +1,5 @@
 -- The network of each unit that is laid is what stands at its place.
-use Rattle.std.proofs.Common.{◌≡◌, ◌≢◌, ◌≤◌, ℕ, zero, suc, ◌+◌, ◌-◌, ◌*◌, ◌==◌, if◌then◌else◌, List, [], ◌∷◌, ◌++◌, Option, Some, refl, ap, sym, ◌∙◌, arith}
+use Rattle.std.proofs.Common.{◌≡◌, ◌≤◌, ℕ, zero, suc, ◌+◌, ◌-◌, ◌*◌, if◌then◌else◌, List, [], ◌∷◌, ◌++◌, Some, refl, ap, ◌∙◌, arith}
 use Rattle.std.proofs.lemmas.Bool.{eq-eqb, ne_eqb}
 use Rattle.std.proofs.lemmas.Option.{option_and_then_some}
 use Rattle.std.specs.List.{AllByRecursion}
@@ -9,7 +9,7 @@ use Rattle.ff_net.specs.Counts.{count, inner_edges, pick_edges}
 use Rattle.ff_net.specs.Places.{child}
 use Rattle.ff_net.specs.Tree.{Tree, Trees, Leaf, Pipe, Comb, Farm, OFarm, A2a, Wrap, none, more}
 use Rattle.ff_plan.specs.declared.kind.UnitKind.{UnitKind}
-use Rattle.ff_plan.specs.declared.kind.UnitKind.TheVariants.{Stage, Merge, Worker}
+use Rattle.ff_plan.specs.declared.kind.UnitKind.TheVariants.{Stage, Worker}
 use Rattle.ff_plan.specs.Laying.{lay, lay_parts, lay_copies, copies, row_deals, column_merges, route_kind}
 use Rattle.ff_plan.specs.Rows.{Laid}
 use Rattle.ff_plan.specs.Standing.{StandsIn, NetsAtPlaces}
@@ -23,7 +23,7 @@ module _ {N : Type 0} where
   net_at-child (j ∷ place) w t u k here below =
       option_and_then_some (λ (v : Tree N). net_at v place) (child_of w j) t here
       (λ (x : Tree N) (is : child_of w j ≡ Some x) (rest : net_at x place ≡ Some t).
-        ap (option_and_then (λ (v : Tree N). net_at v (place ++ k ∷ []))) is ∙ net_at-child place x t u k rest below)
+      ap (option_and_then (λ (v : Tree N). net_at v (place ++ k ∷ []))) is ∙ net_at-child place x t u k rest below)
 
   module _ (w : Tree N) where
     both : (xs ys : List (Laid N)) → AllByRecursion (StandsIn w) xs → AllByRecursion (StandsIn w) ys → AllByRecursion (StandsIn w) (xs ++ ys)
@@ -66,22 +66,28 @@ module _ {N : Type 0} where
       all_stand (Pipe ts) at i o e here = parts_stand ts (Pipe ts) at 1 i o e (e + (count ts - 1)) here (λ (k : ℕ) (h : 1 ≤ k). refl)
       all_stand (Comb ts) at i o e here = (here, tt)
       all_stand (Farm n s p) at i o e here =
-          let inside = net_at-child at w (Farm n s p) p 1 here refl in
-          (here, both (lay_copies (lay (child at 1) p) (inner_edges p) e (e + n) (e + 2 * n) n) _
-          (all_lay_copies (lay (child at 1) p) (inner_edges p) (λ (j q f : ℕ). all_stand p (child at 1) j q f inside) e (e + n) (e + 2 * n) n) (here, tt))
+          let inside = net_at-child at w (Farm n s p) p 1 here refl in (
+            here,
+            both (lay_copies (lay (child at 1) p) (inner_edges p) e (e + n) (e + 2 * n) n) _
+                (all_lay_copies (lay (child at 1) p) (inner_edges p) (λ (j q f : ℕ). all_stand p (child at 1) j q f inside) e (e + n) (e + 2 * n) n) (here, tt),
+          )
       all_stand (OFarm n s p) at i o e here =
-          let inside = net_at-child at w (OFarm n s p) p 1 here refl in
-          (here, both (lay_copies (lay (child at 1) p) (inner_edges p) e (e + n) (e + 2 * n + pick_edges s) n) _
-          (all_lay_copies (lay (child at 1) p) (inner_edges p) (λ (j q f : ℕ). all_stand p (child at 1) j q f inside) e (e + n) (e + 2 * n + pick_edges s) n) (here, tt))
+          let inside = net_at-child at w (OFarm n s p) p 1 here refl in (
+            here,
+            both (lay_copies (lay (child at 1) p) (inner_edges p) e (e + n) (e + 2 * n + pick_edges s) n) _
+                (all_lay_copies (lay (child at 1) p) (inner_edges p) (λ (j q f : ℕ). all_stand p (child at 1) j q f inside) e (e + n) (e + 2 * n + pick_edges s) n) (here, tt),
+          )
       all_stand (A2a n l r m t) at i o e here =
           let c = e + 2 * n in
           let d = c + n * m in
           let left = net_at-child at w (A2a n l r m t) l 1 here refl in
-          let right = net_at-child at w (A2a n l r m t) t 2 here refl in
-          (here, both (copies Stage (child at 1) l e (e + n) n) _ (all_copies Stage (child at 1) l e (e + n) n left)
-          (both (row_deals (route_kind r) at (A2a n l r m t) m (e + n) c n) _ (all_row_deals (route_kind r) at (A2a n l r m t) m (e + n) c n here)
-          (both (column_merges at (A2a n l r m t) n m c d m) _ (all_column_merges at (A2a n l r m t) n m c d m here)
-          (both (copies Stage (child at 2) t d (d + m) m) _ (all_copies Stage (child at 2) t d (d + m) m right) (here, tt)))))
+          let right = net_at-child at w (A2a n l r m t) t 2 here refl in (
+            here,
+            both (copies Stage (child at 1) l e (e + n) n) _ (all_copies Stage (child at 1) l e (e + n) n left)
+                (both (row_deals (route_kind r) at (A2a n l r m t) m (e + n) c n) _ (all_row_deals (route_kind r) at (A2a n l r m t) m (e + n) c n here)
+                (both (column_merges at (A2a n l r m t) n m c d m) _ (all_column_merges at (A2a n l r m t) n m c d m here)
+                (both (copies Stage (child at 2) t d (d + m) m) _ (all_copies Stage (child at 2) t d (d + m) m right) (here, tt)))),
+          )
       all_stand (Wrap n p f) at i o e here = (here, all_copies Worker (child at 1) p e (e + n) n (net_at-child at w (Wrap n p f) p 1 here refl))
 
       -- the parts of `t` from child `k` on

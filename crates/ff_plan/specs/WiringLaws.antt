@@ -42,10 +42,11 @@ abbrev pub all_outs : List Row → List (List ℕ)
 all_outs rows = unit_outs rows ++ (0 ∷ []) ∷ [] ∷ []
 
 -- a plan has the units that are counted for its network. Each edge has one reader and one writer: the caller writes edge 0 and reads
--- edge 1, and a unit each other one
+-- edge 1, and a unit each other one. Nobody reads what he writes
 pub record IsJoined {N : Type 0} (t : Tree N) : Type 0 where
   pub many : length (rows_of t) ≡ units t
   pub readers : EachOnce (all_ins (rows_of t)) (edges t)
   pub writers : EachOnce (all_outs (rows_of t)) (edges t)
   pub read : (e : ℕ) → e < edges t → e ≢ 1 → Joined (unit_ins (rows_of t)) e
   pub written : (e : ℕ) → e < edges t → e ≢ 0 → Joined (unit_outs (rows_of t)) e
+  pub apart : (e p i j : ℕ) → IsPort (all_ins (rows_of t)) e p i → IsPort (all_outs (rows_of t)) e p j → ⊥
