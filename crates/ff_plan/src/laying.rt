@@ -148,12 +148,12 @@ fn lay_ofarm<N>(
     let answers = tasks + workers;
     let picks = tasks + 2 * workers;
     add_odeal(sched, span.from, tasks, workers, picks, at, units)?;
-    let inside = Span {
+    let behind_picks = Span {
         from: tasks,
         to: answers,
         inner: picks + pick_edges(sched),
     };
-    let next = lay_workers(workers, worker, &at.down(1), inside, units)?;
+    let next = lay_workers(workers, worker, &at.down(1), behind_picks, units)?;
     add_omerge(sched, answers, workers, picks, span.to, at, units)?;
     Ok(next)
 }

@@ -8,13 +8,12 @@ mod plan;
 #[cfg(test)]
 mod tests;
 
-pub use plan::print_plan;
-
 use crate::Described;
 use crate::print::form_words::{print_front, print_middle, print_side, print_test};
 use ff_net::{Net, Sched, Version};
 use ff_ops::Op;
 use ff_rec::NoMemory;
+pub use plan::print_plan;
 
 /// Appends the printed form of a network. Where memory runs out some of it may have been appended.
 #[cycle(printing)]

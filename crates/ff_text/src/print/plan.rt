@@ -4,6 +4,9 @@ ghost use Rattle.ff_net.specs.At.{net_at};
 ghost use Rattle.ff_net.specs.Tree.{tree_of};
 ghost use Rattle.ff_text.specs.PlanText.{kind_field, kind_word, printed_edges, printed_label, printed_node, printed_ports, printed_unit, printed_units, printed_work};
 
+#[cfg(test)]
+mod tests;
+
 use super::form_words::print_count;
 use super::print_net;
 use ff_net::{Checked, Net, Path};
@@ -13,11 +16,7 @@ use ff_rec::NoMemory;
 
 /// Appends a plan of this network, a line for each unit: its number, its kind, its ins, `>`, its outs, and for a stage or a worker
 /// `:` and its node or comb. Where memory runs out some of it may have been appended.
-pub fn print_plan(
-    plan: &Layout,
-    checked: &Checked<Op>,
-    into: &mut Vec<u8>,
-) -> Result<(), NoMemory>
+pub fn print_plan(plan: &Layout, checked: &Checked<Op>, into: &mut Vec<u8>) -> Result<(), NoMemory>
     ensures { OnOk result (into.new.items ≡ into.old.items
         ++ printed_units (tree_of checked.now.net) 0 plan.now.units) }
 {
