@@ -2,9 +2,9 @@
 mod nets;
 
 use crate::{Edge, EdgeList, Layout, Party, Queue, UnitKind, UnitRow};
-use ff_net::{Path, Route, Sched};
+use ff_net::{Path, Route, Sched, Version};
 use ff_node::Class;
-use nets::{Made, a2a, farm, id, leaf, ofarm, pipe, plan_with, wrap};
+use nets::{Made, a2a, broken, farm, id, leaf, ofarm, pipe, plan_with, wrap};
 use std::alloc::Global;
 use std::process::Abort;
 use std::test::Fail;
@@ -155,12 +155,25 @@ fn edges_on_demand_are_rings_of_one_slot(rt: HostRuntime) -> Result<(), Fail> {
     Ok(())
 }
 
+fn pairs(alloc: Global) -> Made {
+    farm(alloc, 63, Sched::Rr, pipe(alloc, id(), id()))
+}
+
+fn sets(alloc: Global) -> Made {
+    a2a(alloc, 39, Route::Rr, 48, id())
+}
+
 #[test]
-fn a_plan_may_have_128_units(rt: HostRuntime) -> Result<(), Fail> {
+fn the_largest_plans(rt: HostRuntime) -> Result<(), Fail> {
     let alloc = rt.alloc();
-    let workers = farm(alloc, 63, Sched::Rr, pipe(alloc, id(), id()));
-    let plan = plan_with(alloc, workers, 1, Queue::Ring)?;
+    let plan = plan_with(alloc, pairs(alloc), 1, Queue::Ring)?;
     assert_eq!(&rt; plan.units().len(), 128);
     assert_eq!(&rt; plan.edges().len(), 191);
+    assert_eq!(&rt; broken(pairs(alloc), Version::One)?, 0);
+    assert_eq!(&rt; broken(pipe(alloc, pairs(alloc), id()), Version::One)?, 4);
+    let plan = plan_with(alloc, sets(alloc), 1, Queue::Ring)?;
+    assert_eq!(&rt; plan.units().len(), 176);
+    assert_eq!(&rt; plan.edges().len(), 2048);
+    assert_eq!(&rt; broken(pipe(alloc, sets(alloc), id()), Version::Two)?, 5);
     Ok(())
 }

@@ -16,8 +16,16 @@ pub(super) fn plan_with(alloc: Global, net: Made, cap: u32, queue: Queue) -> Res
     requires low { 1 ≤ cap }
     requires high { cap ≤ 4096 }
 {
-    let checked = check(net?, Version::One).ok().ok_or("refused")?;
+    let checked = check(net?, Version::Two).ok().ok_or("refused")?;
     Ok(plan(alloc, &checked, cap, queue)?)
+}
+
+/// The rule that a network breaks; 0 where it keeps them all.
+pub(super) fn broken(net: Made, version: Version) -> Result<u8, Fail> {
+    match check(net?, version) {
+        Ok(_) => Ok(0),
+        Err(fault) => Ok(fault.rule),
+    }
 }
 
 pub(super) fn leaf(class: Class) -> Made {
