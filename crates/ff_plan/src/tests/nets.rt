@@ -23,7 +23,7 @@ pub(super) fn plan_with(alloc: Global, net: Made, cap: u32, queue: Queue) -> Res
 /// The rule that a network breaks; 0 where it keeps them all.
 pub(super) fn broken(net: Made, version: Version) -> Result<u8, Fail> {
     match check(net?, version) {
-        Ok(_) => Ok(0),
+        Ok(_checked) => Ok(0),
         Err(fault) => Ok(fault.rule),
     }
 }
