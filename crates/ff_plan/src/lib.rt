@@ -4,12 +4,14 @@
 mod edge_list;
 mod edge_numbers;
 mod edges;
+mod farms;
 mod forms;
 mod kind;
 mod kinds;
 mod laying;
 mod layout;
 mod on_demand;
+mod picks;
 mod places;
 mod planning;
 mod span;
