@@ -7,7 +7,7 @@ use Rattle.ff_rec.specs.Streams.{at, carried, closed, unaborted}
 use Rattle.ff_rec.specs.Weights.{Same, weigh}
 use Rattle.ff_rec.specs.declared.msg.Msg.TheVariants.{Item, Mark, Pick, Eos, Abort}
 use Rattle.ff_node.specs.Fits.{grouped, IsItemOrMark}
-use Rattle.ff_node.specs.Runs.{Message}
+use Rattle.ff_node.specs.Runs.{Message, AllGoOn}
 use Rattle.ff_net.specs.declared.net.Test.{Test}
 use Rattle.ff_net.specs.Levels.{meets}
 
@@ -114,6 +114,8 @@ pub record AreMasterIns (n : ℕ) (ins : List (List Message)) : Type 0 where
 pub record FitsMaster (n m : ℕ) (p : Test) (log : List Event) (ins outs : List (List Message)) : Type 0 where
   pub ins_are : length ins ≡ suc n
   pub outs_are : length outs ≡ suc n
+  -- whatever comes in, the workers are given records alone. What their answers are like rests on this
+  pub tasks : (w : ℕ) → w < n → (xs : List Rec) × (at outs w ≡ carried xs)
   pub by : AreMasterIns n ins → IsLegal n m p log × (HasDone n m p log ins outs ⊎ HasOverrun n m p log ins outs)
 
 -- an Eos stands among these messages
@@ -130,15 +132,21 @@ pub record BeginsWhole (so_far : List Message) (xs : List Rec) : Type 0 where
   pub more : List Message
   pub is : closed (carried xs) ≡ so_far ++ more
 
--- the same at any moment, by what it took and put: it may hold more than it put yet, and may have dropped records that it took
-pub record BeginsMaster (n m : ℕ) (p : Test) (log : List Event) (gots puts : List (List Message)) : Type 0 where
-  pub legal : IsLegal n m p log
+-- what it took and put at any moment, besides the tasks, by a log: it may hold more than it put yet, and may have dropped records that it took
+pub record BeginsLogged (n m : ℕ) (p : Test) (log : List Event) (gots puts : List (List Message)) : Type 0 where
   pub fed_in : (more : List Message) × (unaborted (at gots 0) ≡ carried (fed log) ++ more)
   pub answers : (w : ℕ) → w < n → (more : List Message) × (unaborted (at gots (suc w)) ≡ grouped (got_from w log) ++ more)
-  pub tasks : (w : ℕ) → w < n → BeginsWhole (unaborted (at puts w)) (given_to w log)
-  pub results : BeginsWhole (unaborted (at puts n)) (came_out p log)
+  -- past the limit it drops results, and its Eos comes behind the others
+  pub results : length (came p log) ≤ m → BeginsWhole (unaborted (at puts n)) (came_out p log)
   pub ends : (k : ℕ) → k < suc n → HasEos (at puts k) → HasEos (at gots 0) × IsDone n m p log
   pub whole : HasEos (at puts n) → length (came p log) ≤ m
       → (unaborted (at gots 0) ≡ closed (carried (fed log)))
       × ((w : ℕ) → w < n → unaborted (at puts w) ≡ closed (carried (given_to w log)))
       × (unaborted (at puts n) ≡ closed (carried (came_out p log)))
+
+-- a master begins to fit: its log is legal, and its workers are given records alone by it, whatever comes in. Where what it took begins what its
+-- ins may carry, the rest is by its log too
+pub record BeginsMaster (n m : ℕ) (p : Test) (log : List Event) (gots puts : List (List Message)) : Type 0 where
+  pub legal : IsLegal n m p log
+  pub tasks : (w : ℕ) → w < n → BeginsWhole (unaborted (at puts w)) (given_to w log)
+  pub by : (ins : List (List Message)) → AllGoOn gots ins → AreMasterIns n ins → BeginsLogged n m p log gots puts

@@ -1,7 +1,7 @@
 -- What went over the edges of a plan: whole lists that every unit fits, and such as were cut off.
 use Rattle.std.specs.Prelude.{◌≡◌, ◌⊎◌, ℕ, ◌-◌, List, [], ◌∷◌, ◌++◌, map, length}
 use Rattle.ff_rec.specs.Lines.{Rec}
-use Rattle.ff_rec.specs.Streams.{at, carried, items, unaborted, GoesOn}
+use Rattle.ff_rec.specs.Streams.{at, items}
 use Rattle.ff_node.specs.Behaviour.{Behaviour, node_rejected}
 use Rattle.ff_node.specs.Comb.{Part, comb_node, running}
 use Rattle.ff_node.specs.Fits.{FitsStage, FitsWorker, FitsStrictDeal, FitsFreeDeal, FitsKeyDeal, FitsMerge, FitsStrictODeal, FitsFreeODeal, FitsTurnMerge, FitsPickMerge}

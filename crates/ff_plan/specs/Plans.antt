@@ -1,5 +1,5 @@
 -- The plan of a network.
-use Rattle.std.specs.Prelude.{ℕ, zero, suc, ◌==◌, if◌then◌else◌, Bool, true, false, ◌||◌, List, [], ◌∷◌, map}
+use Rattle.std.specs.Prelude.{ℕ, suc, ◌==◌, if◌then◌else◌, Bool, false, ◌||◌, List, [], ◌∷◌, map}
 use Rattle.std.specs.List.{list_any}
 use Rattle.ff_net.specs.Counts.{edges}
 use Rattle.ff_net.specs.Tree.{Tree}
@@ -11,7 +11,7 @@ use Rattle.ff_plan.specs.declared.kind.UnitKind.{UnitKind}
 use Rattle.ff_plan.specs.declared.kind.UnitKind.TheVariants.{DealOd, ODealOd, Stage, DealRr, DealBy, Merge, ODealRr, OMergeTurn, OMergePick, Master, Worker}
 use Rattle.ff_plan.specs.declared.layout.Edge.{Edge}
 use Rattle.ff_plan.specs.Laying.{units_of}
-use Rattle.ff_plan.specs.Rows.{Row, Laid, range}
+use Rattle.ff_plan.specs.Rows.{Row, range}
 
 -- all units and all edges, by their numbers
 pub record Plan : Type 0 where

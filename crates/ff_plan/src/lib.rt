@@ -9,6 +9,7 @@ mod forms;
 mod kind;
 mod kinds;
 mod laying;
+pub mod laws;
 mod layout;
 mod on_demand;
 mod picks;

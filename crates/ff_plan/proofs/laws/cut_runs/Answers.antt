@@ -1,0 +1,23 @@
+-- A checked network is good, and so its plan has the law of every form.
+use Rattle.std.proofs.Common.{[]}
+use Rattle.ff_node.specs.CombLaws.{comb-is_pipeline}
+use Rattle.ff_net.proofs.GoodNets.{good}
+use Rattle.ff_net.proofs.Kept.{kept_whole}
+use Rattle.ff_net.specs.Places.{whole}
+use Rattle.ff_net.specs.Tree.{tree_of}
+use Rattle.ff_plan.proofs.NetLaws.{law_net}
+use Rattle.ff_plan.proofs.NodeFacts.{are_nodes}
+use Rattle.ff_plan.proofs.Runs.{cut_runs}
+use Rattle.ff_plan.proofs.Views.{cut_view}
+use Rattle.ff_plan.proofs.CutWraps.{law_wrap_cut}
+use Rattle.ff_plan.proofs.laws.cut_runs.Goals as goal
+
+pub returns : goal.returns
+returns g c =
+    let b = g.N.Node.does in
+    let keeps = g.met.N.Node.keeps_kind in
+    let law = g.met.N.Node.class_law in
+    let t = tree_of c.args.checked.now.net in
+    let is_good = good b c.args.checked.now.version whole [] t (kept_whole b c.args.checked.now.version t c.args.checked.now.kept) in
+    λ m. cut_runs b m t (λ got put first. law_net b (are_nodes b keeps law) m (cut_view b m got put first)
+        (λ n w p is. law_wrap_cut b keeps law (comb-is_pipeline b) m n w p is.2 is.3 got put first) t is_good)
