@@ -12,9 +12,11 @@ use Rattle.ff_plan.specs.Rows.{Row, Laid, range}
 use Rattle.ff_plan.specs.WiringLaws.{unit_ins, unit_outs, all_ins, all_outs, IsJoined}
 use Rattle.ff_plan.proofs.LaidUnits.{length-rows_of}
 use Rattle.ff_plan.proofs.Loopless.{no_loop}
-use Rattle.ff_plan.proofs.Ports.{one_at, other_at, joined, each_once, joints, once_in}
+use Rattle.ff_plan.proofs.OneAt.{one_at, other_at, once_in}
+use Rattle.ff_plan.proofs.Ports.{joined, each_once, joints}
 use Rattle.ff_plan.proofs.Ranges.{range-cut}
-use Rattle.ff_plan.proofs.Weighed.{ins-lay, outs-lay}
+use Rattle.ff_plan.proofs.WeighedIns.{ins-lay}
+use Rattle.ff_plan.proofs.WeighedOuts.{outs-lay}
 
 module _ {N : Type 0} (b : Behaviour N) (t : Tree N) (good : Good b t) where
   ports : (h : ℕ → ℕ) (side : Row → List ℕ) → weigh (λ xs. weigh h xs) (map side (rows_of t)) ≡ weigh (λ (l : Laid N). weigh h (side l.row)) (units_of t)

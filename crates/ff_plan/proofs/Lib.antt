@@ -37,6 +37,14 @@ mod A2a
 pub mod Lefts
 pub mod LaidRows
 pub mod LaidUnits
+pub mod Standing
+pub mod OneAt
+pub mod Ports
+pub mod Ranges
+pub mod JoinedUnits
+pub mod Among
+pub mod Apart
+pub mod Loopless
 mod Grouped
 mod Alone
 mod GroupLaws
@@ -44,10 +52,3 @@ mod ODealing
 mod OFarm
 mod NetLaws
 mod NodeFacts
-pub mod Standing
-pub mod Ports
-pub mod Ranges
-pub mod Weighed
-pub mod JoinedUnits
-pub mod Among
-pub mod Loopless

@@ -1,5 +1,5 @@
 -- No unit reads an edge that it writes.
-use Rattle.std.proofs.Common.{◌≢◌, ◌≤◌, ◌<◌, ℕ, zero, suc, ◌+◌, ◌-◌, ◌*◌, List, [], ◌∷◌, ◌++◌, map, sym, ◌∙◌, inl, inr, arith}
+use Rattle.std.proofs.Common.{◌≢◌, ◌≤◌, ◌<◌, ℕ, zero, suc, ◌+◌, ◌-◌, ◌*◌, List, [], ◌∷◌, ◌++◌, map, arith}
 use Rattle.std.specs.List.{AllByRecursion}
 use Rattle.ff_net.specs.Counts.{count, inner_edges, pick_edges}
 use Rattle.ff_net.specs.Places.{child}
@@ -10,45 +10,8 @@ use Rattle.ff_plan.specs.Laying.{lay, lay_parts, lay_copies, copies, row_deals, 
 use Rattle.ff_plan.specs.Plans.{rows_of}
 use Rattle.ff_plan.specs.Rows.{Laid, laid, range, stride}
 use Rattle.ff_plan.specs.WiringLaws.{all_ins, all_outs, IsPort}
-use Rattle.ff_plan.proofs.Among.{In, in-one, in-append, in-range, in-stride, in-at}
-
--- no edge is among both
-abbrev pub Apart : List ℕ → List ℕ → Type 0
-Apart xs ys = (x : ℕ) → In x xs → In x ys → ⊥
-
--- edges from `e` on, and one before them
-apart-after : (i e n : ℕ) → i < e → Apart (i ∷ []) (range e n)
-apart-after i e n before x one some =
-    let here = in-one x i one in
-    let there = in-range x e n some in
-    omega (arith, here, there.0)
-
-apart-before : (e n o : ℕ) → o < e → Apart (range e n) (o ∷ [])
-apart-before e n o before x some one =
-    let here = in-one x o one in
-    let there = in-range x e n some in
-    omega (arith, here, there.0)
-
-apart-ends : (i o : ℕ) → i ≢ o → Apart (i ∷ []) (o ∷ [])
-apart-ends i o differ x one other = differ (sym (in-one x i one) ∙ in-one x o other)
-
-apart-left : (xs ys zs : List ℕ) → Apart xs zs → Apart ys zs → Apart (xs ++ ys) zs
-apart-left xs ys zs first second x some other = elim (in-append x xs ys some) [
-  | inl left ↦ first x left other
-  | inr right ↦ second x right other
-]
-
-apart-right : (xs ys zs : List ℕ) → Apart xs ys → Apart xs zs → Apart xs (ys ++ zs)
-apart-right xs ys zs first second x some other = elim (in-append x ys zs other) [
-  | inl left ↦ first x some left
-  | inr right ↦ second x some right
-]
-
-apart-ranges : (e n : ℕ) → Apart (range (e + n) n) (range e n)
-apart-ranges e n x some other =
-    let here = in-range x (e + n) n some in
-    let there = in-range x e n other in
-    omega (arith, here.0, there.1)
+use Rattle.ff_plan.proofs.Among.{In, in-one, in-stride, in-at}
+use Rattle.ff_plan.proofs.Apart.{Apart, apart-after, apart-before, apart-ends, apart-left, apart-right, apart-ranges}
 
 module _ {N : Type 0} where
   abbrev pub NoLoop : Laid N → Type 0

@@ -1,17 +1,15 @@
 // How a network is laid: its units in order, between the edge that it reads and the edge that it writes.
-ghost use Rattle.std.specs.Prelude.{◌≡◌, ◌+◌, ◌*◌, ◌-◌, ◌≤◌, ◌<◌, ◌++◌, map, length, if◌then◌else◌, OnOk, IfOk};
-ghost use Rattle.ff_net.specs.Counts.{count, depth, deepest, inner_edges, all_inner_edges, pick_edges};
-ghost use Rattle.ff_net.specs.Places.{child};
-ghost use Rattle.ff_net.specs.Tree.{tree_of, trees_of, Farm, OFarm};
-ghost use Rattle.ff_plan.specs.AlikeRows.{set_rows, wrap_rows};
-ghost use Rattle.ff_plan.specs.Laying.{lay, lay_parts, lay_copies};
+ghost use Rattle.std.specs.Prelude.{◌≡◌, ◌+◌, ◌-◌, ◌≤◌, ◌<◌, ◌++◌, map, length, if◌then◌else◌, OnOk, IfOk};
+ghost use Rattle.ff_net.specs.Counts.{count, depth, deepest, inner_edges, all_inner_edges};
+ghost use Rattle.ff_net.specs.Tree.{tree_of, trees_of};
+ghost use Rattle.ff_plan.specs.Laying.{lay, lay_parts};
 
-use crate::forms::{add_odeal, add_omerge, lay_sets, lay_stage, lay_wrap};
-use crate::kinds::{deal_kind, pick_edges, route_kind};
+use crate::UnitRow;
+use crate::farms::{lay_farm, lay_ofarm};
+use crate::forms::{lay_sets, lay_stage, lay_wrap};
+use crate::kinds::route_kind;
 use crate::span::Span;
-use crate::units::{add_deal, add_merge};
-use crate::{UnitKind, UnitRow};
-use ff_net::{Net, Path, Sched};
+use ff_net::{Net, Path};
 use ff_rec::NoMemory;
 
 /// Lays a network that stands at this place, and tells the first number that is left for an edge.
@@ -95,95 +93,4 @@ fn out_of(is_last: bool, to: u32, between: u32) -> u32
     ensures { result ≡ (if is_last then to else between) }
 {
     if is_last { to } else { between }
-}
-
-// Lays a farm: its deal, its workers, and its merge.
-#[cycle(laying)]
-fn lay_farm<N>(
-    workers: u32,
-    sched: Sched,
-    worker: &Net<N>,
-    at: &Path,
-    span: Span,
-    units: &mut Vec<UnitRow>,
-) -> Result<u32, NoMemory>
-    requires room { length at.now + depth (tree_of worker.now) < 16 }
-    requires few { span.inner + (workers * inner_edges (tree_of worker.now) + 2 * workers) ≤ 2048 }
-    ensures rows { OnOk result (units.new.items ≡ units.old.items
-        ++ map (λ l. l.row) (lay at.now (Farm workers sched (tree_of worker.now)) span.from span.to span.inner)) }
-    ensures next { IfOk result (λ next. next
-        ≡ span.inner + (workers * inner_edges (tree_of worker.now) + 2 * workers)) }
-{
-    let tasks = span.inner;
-    let answers = tasks + workers;
-    add_deal(deal_kind(sched), span.from, tasks, workers, at, units)?;
-    let inside = Span {
-        from: tasks,
-        to: answers,
-        inner: tasks + 2 * workers,
-    };
-    let next = lay_workers(workers, worker, &at.down(1), inside, units)?;
-    add_merge(UnitKind::Merge, answers, workers, span.to, at, units)?;
-    Ok(next)
-}
-
-// Lays an ordered farm. On demand its deal tells its picks to its merge over an edge of their own.
-#[cycle(laying)]
-fn lay_ofarm<N>(
-    workers: u32,
-    sched: Sched,
-    worker: &Net<N>,
-    at: &Path,
-    span: Span,
-    units: &mut Vec<UnitRow>,
-) -> Result<u32, NoMemory>
-    requires room { length at.now + depth (tree_of worker.now) < 16 }
-    requires few { span.inner + (workers * inner_edges (tree_of worker.now) + 2 * workers + pick_edges sched) ≤ 2048 }
-    ensures rows { OnOk result (units.new.items ≡ units.old.items
-        ++ map (λ l. l.row) (lay at.now (OFarm workers sched (tree_of worker.now)) span.from span.to span.inner)) }
-    ensures next { IfOk result (λ next. next
-        ≡ span.inner + (workers * inner_edges (tree_of worker.now) + 2 * workers + pick_edges sched)) }
-{
-    let tasks = span.inner;
-    let answers = tasks + workers;
-    let picks = tasks + 2 * workers;
-    add_odeal(sched, span.from, tasks, workers, picks, at, units)?;
-    let behind_picks = Span {
-        from: tasks,
-        to: answers,
-        inner: picks + pick_edges(sched),
-    };
-    let next = lay_workers(workers, worker, &at.down(1), behind_picks, units)?;
-    add_omerge(sched, answers, workers, picks, span.to, at, units)?;
-    Ok(next)
-}
-
-// Lays the workers of a farm, worker k from edge `from` + k to edge `to` + k.
-#[cycle(laying)]
-fn lay_workers<N>(
-    workers: u32,
-    worker: &Net<N>,
-    at: &Path,
-    span: Span,
-    units: &mut Vec<UnitRow>,
-) -> Result<u32, NoMemory>
-    requires room { length at.now + depth (tree_of worker.now) ≤ 16 }
-    requires few { span.inner + workers * inner_edges (tree_of worker.now) ≤ 2048 }
-    requires ins { span.from + workers ≤ 4096 }
-    requires outs { span.to + workers ≤ 4096 }
-    ensures rows { OnOk result (units.new.items ≡ units.old.items
-        ++ map (λ l. l.row) (lay_copies (lay at.now (tree_of worker.now))
-        (inner_edges (tree_of worker.now)) span.from span.to span.inner workers)) }
-    ensures next { IfOk result (λ next. next ≡ span.inner + workers * inner_edges (tree_of worker.now)) }
-{
-    let mut inner = span.inner;
-    for k in 0..workers {
-        let inside = Span {
-            from: span.from + k,
-            to: span.to + k,
-            inner,
-        };
-        inner = lay(worker, at, inside, units)?;
-    }
-    Ok(inner)
 }

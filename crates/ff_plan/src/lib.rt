@@ -4,6 +4,7 @@
 mod edge_list;
 mod edge_numbers;
 mod edges;
+mod farms;
 mod forms;
 mod kind;
 mod kinds;
@@ -11,6 +12,7 @@ pub mod laws;
 mod laying;
 mod layout;
 mod on_demand;
+mod picks;
 mod places;
 mod planning;
 mod span;

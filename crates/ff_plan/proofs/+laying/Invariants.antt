@@ -2,11 +2,11 @@ use Rattle.std.proofs.Common.{◌≡◌, ◌+◌, ◌-◌, ◌*◌, ◌≤◌, �
 use Rattle.ff_net.specs.Counts.{count, deepest, inner_edges, all_inner_edges}
 use Rattle.ff_net.specs.Tree.{tree_of, trees_of}
 use Rattle.ff_plan.specs.Laying.{lay, lay_parts, lay_copies}
-use Rattle.ff_plan.proofs.laying.+laying.Given as goal
+use Rattle.ff_plan.proofs.+laying.Given as goal
 
 -- the units so far with those of the parts that are left are all
-abbrev pub invariant-lay_parts-loop-i : goal.invariant-lay_parts-loop-i
-invariant-lay_parts-loop-i g l =
+abbrev pub invariant-laying::lay_parts-loop-i : goal.invariant-laying::lay_parts-loop-i
+invariant-laying::lay_parts-loop-i g l =
     let left = trees_of (drop l.i l.parts) in
     let all = trees_of l.parts in
     record {
@@ -18,8 +18,8 @@ invariant-lay_parts-loop-i g l =
     }
 
 -- the units so far with those of the workers that are left are all
-abbrev pub invariant-lay_workers-loop-k : goal.invariant-lay_workers-loop-k
-invariant-lay_workers-loop-k g l =
+abbrev pub invariant-farms::lay_workers-loop-k : goal.invariant-farms::lay_workers-loop-k
+invariant-farms::lay_workers-loop-k g l =
     let one = lay l.at (tree_of l.worker) in
     let width = inner_edges (tree_of l.worker) in
     record {

@@ -12,18 +12,18 @@ use Rattle.ff_plan.specs.Laying.{lay, lay_parts, lay_copies}
 use Rattle.ff_plan.specs.Rows.{Laid}
 use Rattle.ff_plan.proofs.Lefts.{left-times, map-lay_copies-left, map-lay_parts-more, chosen-last, chosen-other, done-some}
 use Rattle.ff_plan.proofs.LaidRows.{map-lay-A2a, map-lay-Wrap}
-use Rattle.ff_plan.proofs.laying.+laying.Goals as goal
+use Rattle.ff_plan.proofs.+laying.Goals as goal
 
-pub lay-lay_parts-requires : goal.lay-lay_parts-requires
-lay-lay_parts-requires g t c κs within =
+pub laying::lay-lay_parts-requires : goal.laying::lay-lay_parts-requires
+laying::lay-lay_parts-requires g t c κs within =
     let net : tree_of c.args.net.now ≡ Pipe (trees_of c.deref.result.now) =
     ap tree_of c.in-Pipe.is ∙ tree_of-Pipe c.in-Pipe.parts ∙ ap (λ ns. Pipe (trees_of ns)) (sym c.deref.ensures.value) in
     let room : length c.args.at.now + deepest (trees_of c.deref.result.now) < 16 = omega (arith, ap depth net, c.requires.room) in
     let few = subst (λ t. c.args.span.inner + inner_edges t ≤ 2048) net c.requires.few in
     (search (rules, the_lemmas), (within, (room, few)))
 
-pub lay-returns-in-A2a-clause-rows : goal.lay-returns-in-A2a-clause-rows
-lay-returns-in-A2a-clause-rows g t c =
+pub laying::lay-returns-in-A2a-clause-rows : goal.laying::lay-returns-in-A2a-clause-rows
+laying::lay-returns-in-A2a-clause-rows g t c =
     let row = λ (l : Laid g.row.N.Denot). l.row in
     let at = c.args.at.now in
     let s = c.args.span in
@@ -36,8 +36,8 @@ lay-returns-in-A2a-clause-rows g t c =
     ∙ ap sets (sym c.route_kind.ensures) in
     subst (λ rs. OnOk c.lay_sets.result (c.lay_sets.new.units.items ≡ c.args.units.now.items ++ rs)) (sym rows) c.lay_sets.ensures.rows
 
-pub lay-returns-in-Wrap-clause-rows : goal.lay-returns-in-Wrap-clause-rows
-lay-returns-in-Wrap-clause-rows g t c =
+pub laying::lay-returns-in-Wrap-clause-rows : goal.laying::lay-returns-in-Wrap-clause-rows
+laying::lay-returns-in-Wrap-clause-rows g t c =
     let row = λ (l : Laid g.row.N.Denot). l.row in
     let at = c.args.at.now in
     let s = c.args.span in
@@ -46,8 +46,8 @@ lay-returns-in-Wrap-clause-rows g t c =
     ∙ map-lay-Wrap at c.in-Wrap.workers (tree_of c.in-Wrap.worker.value) c.in-Wrap.test s.from s.to s.inner in
     subst (λ rs. OnOk c.lay_wrap.result (c.lay_wrap.new.units.items ≡ c.args.units.now.items ++ rs)) (sym rows) c.lay_wrap.ensures.rows
 
-pub lay_parts-loop-i-init : goal.lay_parts-loop-i-init
-lay_parts-loop-i-init g t c =
+pub laying::lay_parts-loop-i-init : goal.laying::lay_parts-loop-i-init
+laying::lay_parts-loop-i-init g t c =
     let row = λ (l : Laid g.row.N.Denot). l.row in
     let s = c.args.span in
     let all = trees_of c.args.parts.now in
@@ -58,8 +58,8 @@ lay_parts-loop-i-init g t c =
       between = omega arith;
     }
 
-pub lay_parts-lay-requires : goal.lay_parts-lay-requires
-lay_parts-lay-requires g t c κs within =
+pub laying::lay_parts-lay-requires : goal.laying::lay_parts-lay-requires
+laying::lay_parts-lay-requires g t c κs within =
     let i = c.loop-i.i in
     let part = c.index-parts-i.result in
     let parts = trees_of-drop c.args.parts.now i part c.loop-i-test.true c.index-parts-i.is in
@@ -68,11 +68,11 @@ lay_parts-lay-requires g t c κs within =
     let few : c.loop-i.inner + inner_edges (tree_of part) ≤ 2048 = omega (arith, ap all_inner_edges parts, c.loop-i.invariant.edges, c.requires.few) in
     (search (rules, the_lemmas), (within, (room, few)))
 
-pub lay_parts-overflow_add-between : goal.lay_parts-overflow_add-between
-lay_parts-overflow_add-between g t c = omega (arith, count-trees c.args.parts.now, c.loop-i.invariant.between, c.loop-i-test.true, c.requires.few)
+pub laying::lay_parts-overflow_add-between : goal.laying::lay_parts-overflow_add-between
+laying::lay_parts-overflow_add-between g t c = omega (arith, count-trees c.args.parts.now, c.loop-i.invariant.between, c.loop-i-test.true, c.requires.few)
 
-pub lay_parts-loop-i-preserved : goal.lay_parts-loop-i-preserved
-lay_parts-loop-i-preserved g t c =
+pub laying::lay_parts-loop-i-preserved : goal.laying::lay_parts-loop-i-preserved
+laying::lay_parts-loop-i-preserved g t c =
     let row = λ (l : Laid g.row.N.Denot). l.row in
     let at = c.args.at.now in
     let i = c.loop-i.i in
@@ -109,8 +109,8 @@ lay_parts-loop-i-preserved g t c =
       between = omega (arith, c.loop-i.invariant.between);
     }
 
-pub lay_workers-loop-k-preserved : goal.lay_workers-loop-k-preserved
-lay_workers-loop-k-preserved g t c =
+pub farms::lay_workers-loop-k-preserved : goal.farms::lay_workers-loop-k-preserved
+farms::lay_workers-loop-k-preserved g t c =
     let k = c.loop-k.k in
     let n = c.args.workers in
     let one = lay c.args.at.now (tree_of c.args.worker.now) in
