@@ -53,8 +53,8 @@ no_logs ls = map (λ l. []) ls
 
 module _ {N : Type 0} (b : Behaviour N) (kind : KeepsKind b) (law : (o : N) → ClassLaw b o (b.class o)) (keep : Bool) where
   -- the units are units of combs
-  pub laws : IsUnit (stage_does (comb_node b))
-  laws = IsUnit-stage (comb_node b) (comb_keeps_kind b kind) (comb_class_law b law)
+  pub comb_laws : IsUnit (stage_does (comb_node b))
+  comb_laws = IsUnit-stage (comb_node b) (comb_keeps_kind b kind) (comb_class_law b law)
 
   -- what unit `u` runs is what these nodes run, before the first record
   pub same-node : (u : StageState (List (Part N))) (l : Laid N) (g : List N) → IsStageOf l g
@@ -67,7 +67,7 @@ module _ {N : Type 0} (b : Behaviour N) (kind : KeepsKind b) (law : (o : N) → 
       → opening_stage (comb_node b) u ≡ opened_stage (comb_node b) (running (map b.opening g)) keep → Ran (stage_does (comb_node b)) u (map got l.row.ins) (map put l.row.outs)
       → BeginsUnit b m l [] (map got l.row.ins) (map put l.row.outs)
   begins-stage m got put u l g is made ran =
-      subst (λ (x : Laid N). BeginsUnit b m x [] (map got x.row.ins) (map put x.row.outs)) (sym is.is) (fits (laws.begins u (got is.from ∷ []) (put is.to ∷ []) ran'))
+      subst (λ (x : Laid N). BeginsUnit b m x [] (map got x.row.ins) (map put x.row.outs)) (sym is.is) (fits (comb_laws.begins u (got is.from ∷ []) (put is.to ∷ []) ran'))
     where
       ran' : Ran (stage_does (comb_node b)) u (got is.from ∷ []) (put is.to ∷ [])
       ran' = subst (λ (x : Laid N). Ran (stage_does (comb_node b)) u (map got x.row.ins) (map put x.row.outs)) is.is ran

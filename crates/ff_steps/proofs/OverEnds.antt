@@ -25,7 +25,7 @@ use Rattle.ff_unit.specs.Units.{Ran, HasRejects}
 use Rattle.ff_steps.specs.OverEdges.{RanAlong}
 use Rattle.ff_steps.specs.Units.{opened_units}
 use Rattle.ff_steps.proofs.Chain.{HasEnded, head-same, tail-same}
-use Rattle.ff_steps.proofs.OverBegins.{laws, same-node, no_logs}
+use Rattle.ff_steps.proofs.OverBegins.{comb_laws, same-node, no_logs}
 use Rattle.ff_steps.proofs.PlanStages.{IsStageOf, AreStages, OnOuts}
 use Rattle.ff_steps.proofs.StageEnds.{HasPassed, HasPassed-ran, FitsStage-same, node_rejected-same}
 
@@ -109,7 +109,7 @@ module _ {N : Type 0} (b : Behaviour N) (kind : KeepsKind b) (law : (o : N) → 
       out_is = before_eos-whole passed.outs (put is.to) passed.outs_open passed.put_is
 
       rejects : HasRejects (stage_does (comb_node b)) u (got is.from ∷ [])
-      rejects = (laws b kind law keep).rejects_are u (got is.from ∷ []) (put is.to ∷ []) ran' ended.0 ended.1
+      rejects = (comb_laws b kind law keep).rejects_are u (got is.from ∷ []) (put is.to ∷ []) ran' ended.0 ended.1
 
       keeps : u.keeps ≡ keep
       keeps = ap (λ (s : StageState (List (Part N))). s.keeps) made
