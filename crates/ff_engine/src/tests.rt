@@ -2,3 +2,4 @@
 mod lines;
 mod meeting;
 mod runs;
+mod slow;

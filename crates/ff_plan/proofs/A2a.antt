@@ -41,6 +41,7 @@ module _ {N : Type 0} (b : Behaviour N) (m : ℕ) (v : View N) (at : List ℕ) (
         (λ j below. sym ((same_in_order (is_ordered l) _ (flow.left.yss j) (flow.left.same j below)).by h))
         ∙ total-weigh-additive (mean b m l) goes flow.dealt.are h
 
+    -- and all that comes out is together what both mean
     all_together : (xs : List Rec) (flow : Flows b m v at form n l r k t i o e second third fourth fifth xs) → Same (mean b m t (mean b m l xs)) flow.merged.ys
     all_together xs flow = record {
       by = λ h.
@@ -50,6 +51,7 @@ module _ {N : Type 0} (b : Behaviour N) (m : ℕ) (v : View N) (at : List ℕ) (
           ∙ total-weigh-share flow.merged.are h;
     }
 
+    -- what both sets reject is what their nodes reject along the way
     all_rejects : (xs : List Rec) (flow : Flows b m v at form n l r k t i o e second third fourth fifth xs) → v.Whole
         → Same (mean_rejected b m l xs ++ mean_rejected b m t (mean b m l xs)) (all_rejected b (lay_sets at form n l (route_kind r) k t i o e second third fourth fifth) v.edge)
     all_rejects xs flow whole = record {

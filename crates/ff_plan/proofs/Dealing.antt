@@ -6,13 +6,10 @@ use Rattle.ff_node.specs.Behaviour.{Behaviour}
 use Rattle.ff_node.specs.Fits.{IsDealt, FitsMerge}
 use Rattle.ff_node.specs.Picks.{ArePicks, share, turns, by_key}
 use Rattle.ff_node.specs.Runs.{Message}
-use Rattle.ff_net.specs.declared.net.Route.{Route}
-use Rattle.ff_net.specs.declared.net.Route.TheVariants.{Rr, Od, By}
 use Rattle.ff_net.specs.Logs.{Event}
 use Rattle.ff_net.specs.Tree.{Tree}
 use Rattle.ff_plan.specs.declared.kind.UnitKind.TheVariants.{DealRr, DealOd, DealBy, Merge}
 use Rattle.ff_plan.specs.Histories.{FitsKind}
-use Rattle.ff_plan.specs.Laying.{route_kind}
 use Rattle.ff_plan.specs.Rows.{range, laid}
 use Rattle.ff_plan.proofs.EdgeLists.{AllOn-range}
 use Rattle.ff_plan.proofs.Opens.{View, AllOn, KnownOf}
@@ -31,12 +28,6 @@ pub record Merges {N : Type 0} (v : View N) (o n : ℕ) (lists : ℕ → List Re
   pub are : ArePicks n picks ys
   pub parts : (j : ℕ) → j < n → share picks ys j ≡ lists j
   pub out : v.Out o (carried ys)
-
--- what is known of the picks of a route
-abbrev pub ArePicksOf : Route → ℕ → List Rec → List ℕ → Type 0
-ArePicksOf Rr n xs picks = Unit {0}
-ArePicksOf Od n xs picks = Unit {0}
-ArePicksOf (By f) n xs picks = picks ≡ by_key f n xs
 
 pub carried-one : (xs ys : List Rec) → carried xs ≡ carried ys → xs ≡ ys
 carried-one xs ys e = sym (items-carried xs) ∙ ap items e ∙ items-carried ys
@@ -69,13 +60,6 @@ module _ {N : Type 0} (b : Behaviour N) (m : ℕ) (v : View N) (place : List ℕ
       let given = known.by (carried xs ∷ []) (from, tt) in
       let fits = subst (λ k. FitsKind b m (DealBy f) t 1 k log (carried xs ∷ []) given.0) (length-range e n) given.2 in
       Deals-dealt e n (by_key f n xs) xs given.0 given.1 (fits.1 xs refl)
-
-  -- a deal by a route
-  pub deals_by_route : (r : Route) (i e n : ℕ) (xs : List Rec) → KnownOf b m v (route_kind r) (laid (route_kind r) (i ∷ []) (range e n) place t) log → v.In i (carried xs)
-      → (picks : List ℕ) × Deals v e n picks xs × ArePicksOf r n xs picks
-  deals_by_route Rr i e n xs known from = (turns n (length xs), deals_in_turn i e n xs known from, tt)
-  deals_by_route Od i e n xs known from = let dealt = deals_on_demand i e n xs known from in (dealt.0, dealt.1, tt)
-  deals_by_route (By f) i e n xs known from = (by_key f n xs, deals_by_key f i e n xs known from, refl)
 
   -- a merge
   pub merges : (es : List ℕ) (o n : ℕ) (lists : ℕ → List Rec) → KnownOf b m v Merge (laid Merge es (o ∷ []) place t) log → length es ≡ n

@@ -54,6 +54,7 @@ module _ (On : ℕ → List Message → Type 0) where
         AllOn-stride step (e + step) n (λ j. f (suc j)) (λ j below. subst (λ k. On k (f (suc j))) (rest j) (each (suc j) (omega (arith, below)))),
       )
 
+  -- edges behind one another
   pub AllOn-append : (es fs : List ℕ) (mss nss : List (List Message)) → AllOn On es mss → AllOn On fs nss → AllOn On (es ++ fs) (mss ++ nss)
   AllOn-append [] fs [] nss left right = right
   AllOn-append [] fs (ms ∷ mss) nss left right = absurd left
@@ -70,5 +71,6 @@ module _ (On : ℕ → List Message → Type 0) where
       let same : suc e + j ≡ e + suc j = omega arith in
       subst (λ k. On k (f (suc j))) same (OnRange-at (suc e) n (λ k. f (suc k)) on.1 j (omega (arith, below)))
 
+  -- lists for edges in a row
   pub OnRange-each : (e n : ℕ) (f : ℕ → List Message) → ((j : ℕ) → j < n → On (e + j) (f j)) → OnRange On e n f
   OnRange-each e n f each = OnRange-AllOn On e n (listed n f) f (AllOn-each e n f each) (at-listed n f)

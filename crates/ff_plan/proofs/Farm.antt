@@ -1,14 +1,13 @@
 -- The law of a farm: a deal by some picks, workers that each give what they mean for their share, and a merge.
-use Rattle.std.proofs.Common.{◌≡◌, ℕ, ◌+◌, ◌*◌, ◌<◌, false, List, [], ◌∷◌, ◌++◌, map, sym, ap, ap₂, ◌∙◌, refl, append-nil, inl}
+use Rattle.std.proofs.Common.{◌≡◌, ℕ, ◌+◌, ◌*◌, ◌<◌, false, List, [], ◌∷◌, ◌++◌, map, length, sym, ap, ap₂, ◌∙◌, refl, append-nil, inl}
 use Rattle.ff_rec.specs.Lines.{Rec}
 use Rattle.ff_rec.specs.Streams.{carried}
 use Rattle.ff_rec.specs.Weights.{weigh, Same}
 use Rattle.ff_rec.proofs.WeightLaws.{Same-≡, Same-trans}
 use Rattle.ff_node.specs.Behaviour.{Behaviour}
 use Rattle.ff_node.specs.OnLists.{PlainGoesByRecords}
-use Rattle.ff_node.specs.Picks.{ArePicks, share}
+use Rattle.ff_node.specs.Picks.{ArePicks, share, turns}
 use Rattle.ff_node.specs.Runs.{Message}
-use Rattle.ff_net.specs.declared.net.Route.TheVariants.{Rr, Od}
 use Rattle.ff_net.specs.declared.net.Sched.{Sched}
 use Rattle.ff_net.specs.declared.net.Sched.TheVariants.{Rr as InTurn, Od as OnDemand}
 use Rattle.ff_net.specs.Counts.{inner_edges}
@@ -23,7 +22,7 @@ use Rattle.ff_plan.specs.Histories.{rejected_by, all_rejected}
 use Rattle.ff_plan.specs.Laying.{deal_kind, lay, lay_copies}
 use Rattle.ff_plan.specs.Rows.{Laid, laid, range}
 use Rattle.ff_plan.proofs.Copies.{HaveAnswers, law_copies}
-use Rattle.ff_plan.proofs.Dealing.{Deals, Merges, deals_by_route, merges}
+use Rattle.ff_plan.proofs.Dealing.{Deals, Merges, deals_in_turn, deals_on_demand, merges}
 use Rattle.ff_plan.proofs.EdgeLists.{OnRange-each}
 use Rattle.ff_plan.proofs.Masters.{calm_of, NoMaster-lay}
 use Rattle.ff_plan.proofs.MeanPlain.{no_wrap_fine, mean_additive, mean_rejected_additive}
@@ -50,11 +49,9 @@ module _ {N : Type 0} (b : Behaviour N) where
     deals_by_schedule : (s : Sched) (at : List ℕ) (t : Tree N) (log : List Event) (i e n : ℕ) (xs : List Rec)
         → KnownOf b m v (deal_kind s) (laid (deal_kind s) (i ∷ []) (range e n) at t) log → v.In i (carried xs) → (picks : List ℕ) × Deals v e n picks xs
     deals_by_schedule InTurn at t log i e n xs known from =
-        let dealt = deals_by_route b m v at t log Rr i e n xs known from in
-        (dealt.0, dealt.1)
+        (turns n (length xs), deals_in_turn b m v at t log i e n xs known from)
     deals_by_schedule OnDemand at t log i e n xs known from =
-        let dealt = deals_by_route b m v at t log Od i e n xs known from in
-        (dealt.0, dealt.1)
+        deals_on_demand b m v at t log i e n xs known from
 
     module _ (by_records : PlainGoesByRecords b) (n : ℕ) (w : Tree N) (plain : ArePlain b w) (free : has_wrap w ≡ false) where
       -- what the workers give for their shares is together what one of them means for all records

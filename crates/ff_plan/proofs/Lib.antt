@@ -38,7 +38,7 @@ pub mod Lefts
 pub mod LaidRows
 pub mod LaidUnits
 mod Grouped
-mod PlainNodes
+mod Alone
 mod GroupLaws
 mod ODealing
 mod OFarm

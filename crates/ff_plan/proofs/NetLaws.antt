@@ -1,7 +1,8 @@
 -- The law of every network that keeps the rules.
 use Rattle.std.proofs.Common.{ℕ}
 use Rattle.ff_node.specs.Behaviour.{Behaviour, KeepsKind}
-use Rattle.ff_node.specs.Comb.{comb_node, CombIsPipeline}
+use Rattle.ff_node.specs.Classes.{ClassLaw}
+use Rattle.ff_node.specs.Comb.{CombIsPipeline}
 use Rattle.ff_node.specs.OnLists.{PlainGoesByRecords, UnorderedGoesByCounts, KeyedGoesByKeys}
 use Rattle.ff_net.specs.declared.net.Test.{Test}
 use Rattle.ff_net.specs.Good.{Good, GoodParts}
@@ -24,7 +25,7 @@ pub record AreNodes {N : Type 0} (b : Behaviour N) : Type 0 where
   pub by_records : PlainGoesByRecords b
   pub by_counts : UnorderedGoesByCounts b
   pub by_keys : KeyedGoesByKeys b
-  pub combs_by_records : PlainGoesByRecords (comb_node b)
+  pub law : (o : N) → ClassLaw b o (b.class o)
 
 module _ {N : Type 0} (b : Behaviour N) (nodes : AreNodes b) (m : ℕ) (v : View N) (law_wrap : WrapLaw b m v) where
   mutual
@@ -33,7 +34,7 @@ module _ {N : Type 0} (b : Behaviour N) (nodes : AreNodes b) (m : ℕ) (v : View
     law_net (Pipe ts) good = law_pipe b nodes.by_counts m v ts good.0 good.1 (law_each ts good.1)
     law_net (Comb ts) good = law_comb b nodes.keeps nodes.combed m v ts good.1
     law_net (Farm n s w) good = law_farm b m v nodes.by_records n w good.1 good.2 s (law_net w good.3)
-    law_net (OFarm n s w) good = law_ofarm b nodes.keeps nodes.combed nodes.by_records nodes.combs_by_records m v w good.2 good.3 good.1 n s
+    law_net (OFarm n s w) good = law_ofarm b nodes.keeps nodes.combed nodes.law m v w good.2 good.3 good.1 n s
     law_net (A2a n l r k t) good = law_a2a b nodes.by_records nodes.by_counts nodes.by_keys m v n l r k t (law_net l good.5) (law_net t good.6) good
     law_net (Wrap n w p) good = law_wrap n w p good
 

@@ -1,8 +1,6 @@
 -- What the contracts of all nodes give.
 use Rattle.ff_node.specs.Behaviour.{Behaviour, KeepsKind}
 use Rattle.ff_node.specs.Classes.{ClassLaw}
-use Rattle.ff_node.specs.Comb.{comb_node}
-use Rattle.ff_node.specs.CombClassLaws.{comb_class_law}
 use Rattle.ff_node.specs.CombLaws.{comb-is_pipeline}
 use Rattle.ff_node.specs.OnListsLaws.{plain_goes_by_records, unordered_goes_by_counts, keyed_goes_by_keys}
 use Rattle.ff_plan.proofs.NetLaws.{AreNodes}
@@ -14,5 +12,5 @@ are_nodes b keeps law = record {
   by_records = plain_goes_by_records b law;
   by_counts = unordered_goes_by_counts b law;
   by_keys = keyed_goes_by_keys b law;
-  combs_by_records = plain_goes_by_records (comb_node b) (comb_class_law b law);
+  law = law;
 }

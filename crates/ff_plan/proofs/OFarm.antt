@@ -6,9 +6,10 @@ use Rattle.ff_rec.specs.Lines.{Rec}
 use Rattle.ff_rec.specs.Weights.{weigh}
 use Rattle.ff_rec.proofs.WeightLaws.{weigh-append}
 use Rattle.ff_node.specs.Behaviour.{Behaviour, KeepsKind}
-use Rattle.ff_node.specs.Comb.{comb_node, CombIsPipeline}
+use Rattle.ff_node.specs.Classes.{ClassLaw}
+use Rattle.ff_node.specs.Comb.{CombIsPipeline}
 use Rattle.ff_node.specs.Fits.{marked, grouped}
-use Rattle.ff_node.specs.OnLists.{PlainGoesByRecords}
+use Rattle.ff_node.specs.OnListsLaws.{plain_goes_by_records}
 use Rattle.ff_node.specs.Picks.{ArePicks, share}
 use Rattle.ff_node.specs.Runs.{Message}
 use Rattle.ff_net.specs.declared.net.Sched.{Sched}
@@ -24,6 +25,7 @@ use Rattle.ff_net.specs.Tree.{Tree, OFarm}
 use Rattle.ff_plan.specs.Histories.{rejected_by, all_rejected}
 use Rattle.ff_plan.specs.Laying.{odeal_kind, omerge_kind, lay, lay_copies}
 use Rattle.ff_plan.specs.Rows.{Laid, laid, range}
+use Rattle.ff_plan.proofs.Alone.{mean-alone}
 use Rattle.ff_plan.proofs.Carries.{in_order-≡}
 use Rattle.ff_plan.proofs.Copies.{total-first}
 use Rattle.ff_plan.proofs.EdgeLists.{OnRange-at, OnRange-each}
@@ -34,7 +36,6 @@ use Rattle.ff_plan.proofs.Masters.{calm_of, NoMaster-lay}
 use Rattle.ff_plan.proofs.MeanPlain.{no_wrap_fine, mean_rejected_additive}
 use Rattle.ff_plan.proofs.ODealing.{deals_in_order, merges_in_order, told_on}
 use Rattle.ff_plan.proofs.Opens.{View, Known, KnownOf, LawOf}
-use Rattle.ff_plan.proofs.PlainNodes.{mean-each}
 use Rattle.ff_plan.proofs.Shares.{total-weigh-additive}
 use Rattle.ff_plan.proofs.Totals.{total, total-same}
 use Rattle.ff_plan.proofs.UnitLists.{OnRange, EachUnit-append, EachUnit-one, all_rejected-append}
@@ -61,7 +62,7 @@ module _ {N : Type 0} (b : Behaviour N) where
       ∙ ap (λ (held : List Rec). all_rejected b ls edge ++ (held ++ [])) (rejected_by-omerge s t (map edge ends))
       ∙ append-nil (all_rejected b ls edge)
 
-module _ {N : Type 0} (b : Behaviour N) (keeps : KeepsKind b) (combed : CombIsPipeline b) (by_records : PlainGoesByRecords b) (combs_by_records : PlainGoesByRecords (comb_node b)) (m : ℕ) (v : View N)
+module _ {N : Type 0} (b : Behaviour N) (keeps : KeepsKind b) (combed : CombIsPipeline b) (law : (o : N) → ClassLaw b o (b.class o)) (m : ℕ) (v : View N)
     (w : Tree N) (line : is_pipeline w ≡ true) (good : Good b w) (plain : ArePlain b w) where
   -- the workers side by side
   give_groups : (at : List ℕ) (width i o e n : ℕ) (logs : List (List Event)) (gss : ℕ → List (List Rec)) → Known b m v (lay_copies (lay at w) width i o e n) logs
@@ -71,7 +72,7 @@ module _ {N : Type 0} (b : Behaviour N) (keeps : KeepsKind b) (combed : CombIsPi
       let ls = lay at w i o e in
       let ks = lay_copies (lay at w) width (suc i) (suc o) (e + width) n in
       let split = EachUnit-append _ ls ks logs known in
-      let first = groups_of b keeps combed by_records combs_by_records m v w line good plain at i o e split.front (gss 0) split.left ins.0 in
+      let first = groups_of b keeps combed law m v w line good plain at i o e split.front (gss 0) split.left ins.0 in
       let rest = give_groups at width (suc i) (suc o) (e + width) n split.back (λ j. gss (suc j)) split.right ins.1 in
       record {
         outs = (first.out, rest.outs);
@@ -110,7 +111,7 @@ module _ {N : Type 0} (b : Behaviour N) (keeps : KeepsKind b) (combed : CombIsPi
   rejects_together : (free : has_wrap w ≡ false) (n : ℕ) (xs : List Rec) (picks : List ℕ) → ArePicks n picks xs → (h : Rec → ℕ)
       → weigh h (mean_rejected b m w xs) ≡ total n (λ j. weigh h (mean_rejected b m w (joined (alone (share picks xs j)))))
   rejects_together free n xs picks are h =
-      sym (total-weigh-additive (mean_rejected b m w) (mean_rejected_additive b by_records m w plain free) are h)
+      sym (total-weigh-additive (mean_rejected b m w) (mean_rejected_additive b (plain_goes_by_records b law) m w plain free) are h)
       ∙ total-same n (λ j. weigh h (mean_rejected b m w (share picks xs j))) (λ j. weigh h (mean_rejected b m w (joined (alone (share picks xs j)))))
       (λ j below. ap (λ ys. weigh h (mean_rejected b m w ys)) (sym (joined-ones (share picks xs j))))
 
@@ -132,7 +133,7 @@ module _ {N : Type 0} (b : Behaviour N) (keeps : KeepsKind b) (combed : CombIsPi
         fine = no_wrap_fine b m w free xs;
         ys = flat_map send xs;
         out = merges_in_order b m v at form last.0 s send (e + n) n (e + 2 * n) o xs dealt.picks dealt.are last.1 brought (told_on v s n (e + 2 * n) xs dealt.picks dealt.told);
-        same = in_order-≡ (is_ordered form) (mean b m w xs) (flat_map send xs) (sym (mean-each b m by_records w plain free xs));
+        same = in_order-≡ (is_ordered form) (mean b m w xs) (flat_map send xs) (sym (mean-alone b m (plain_goes_by_records b law) w plain free xs));
         rejects = λ whole. record {
           by = λ h.
               rejects_together free n xs dealt.picks dealt.are h

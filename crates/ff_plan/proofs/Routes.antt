@@ -50,6 +50,7 @@ pub record AreRouted {N : Type 0} (v : View N) (r : Route) (d n k : ℕ) (rows :
   pub out : (j : ℕ) → j < k → v.Out (d + j) (carried (columns j))
 
 module _ {N : Type 0} (b : Behaviour N) (m : ℕ) (v : View N) (place : List ℕ) (t : Tree N) where
+  -- row j is dealt by its picks
   rows_dealt : (r : Route) (i c n k : ℕ) (logs : List (List Event)) (rows : ℕ → List Rec) → Known b m v (row_deals (route_kind r) place t k i c n) logs
       → ((j : ℕ) → j < n → v.In (i + j) (carried (rows j))) → RowsDealt v r c n k rows
   rows_dealt Rr i c n k logs rows known from =
@@ -81,6 +82,7 @@ module _ {N : Type 0} (b : Behaviour N) (m : ℕ) (v : View N) (place : List ℕ
       let given = merges b m v place t column.0 _ (d + j) n (λ i. share (dealt.deals i) (rows i) j) column.1 (length-stride k (c + j) n) taken in
       ((given.ys, given.picks), record { are = given.are; parts = given.parts; out = given.out })
 
+  -- the rows go to the columns
   pub routed : (r : Route) (i c d n k : ℕ) (deal_logs merge_logs : List (List Event)) (rows : ℕ → List Rec)
       → Known b m v (row_deals (route_kind r) place t k i c n) deal_logs → Known b m v (column_merges place t n k c d k) merge_logs
       → ((j : ℕ) → j < n → v.In (i + j) (carried (rows j))) → AreRouted v r d n k rows
@@ -106,6 +108,7 @@ abbrev pub AddsUp : Route → ℕ → (List Rec → List Rec) → Type 0
 AddsUp r k make = (n : ℕ) (rows columns : ℕ → List Rec) (deals merges : ℕ → List ℕ) (xs : List Rec) → AreColumns n k rows deals columns merges → IsByRoute r k rows deals
     → ((h : Rec → ℕ) → total n (λ j. weigh h (rows j)) ≡ weigh h xs) → (h : Rec → ℕ) → total k (λ j. weigh h (make (columns j))) ≡ weigh h (make xs)
 
+-- a node that goes by records
 pub AddsUp-additive : (r : Route) (k : ℕ) (make : List Rec → List Rec) → Additive make → AddsUp r k make
 AddsUp-additive r k make additive n rows columns deals merges xs are by together h =
     let weight : Rec → ℕ = λ x. weigh h (additive.each x) in

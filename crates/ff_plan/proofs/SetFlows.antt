@@ -50,25 +50,26 @@ module _ {N : Type 0} (b : Behaviour N) (m : ℕ) (v : View N) (at : List ℕ) (
     pub merge_log : List Event
     pub merge : KnownOf b m v Merge (laid Merge (range fifth k) (o ∷ []) at form) merge_log
 
+  -- each part of them has its logs
   pub known_sets : (logs : List (List Event)) → Known b m v (lay_sets at form n l (route_kind r) k t i o e second third fourth fifth) logs → KnownSets
   known_sets [] known = absurd known
   known_sets (log ∷ logs) known =
-      let first = EachUnit-append _ (copies Stage (child at 1) l e second n) _ logs known.1 in
-      let next = EachUnit-append _ (row_deals (route_kind r) at form k second third n) _ first.back first.right in
-      let third = EachUnit-append _ (column_merges at form n k third fourth k) _ next.back next.right in
-      let fourth = EachUnit-append _ (copies Stage (child at 2) t fourth fifth k) _ third.back third.right in
-      let last = EachUnit-one (λ l lg. KnownOf b m v l.row.kind l lg) (laid Merge (range fifth k) (o ∷ []) at form) fourth.back fourth.right in
+      let lefts = EachUnit-append _ (copies Stage (child at 1) l e second n) _ logs known.1 in
+      let rows = EachUnit-append _ (row_deals (route_kind r) at form k second third n) _ lefts.back lefts.right in
+      let columns = EachUnit-append _ (column_merges at form n k third fourth k) _ rows.back rows.right in
+      let rights = EachUnit-append _ (copies Stage (child at 2) t fourth fifth k) _ columns.back columns.right in
+      let last = EachUnit-one (λ l lg. KnownOf b m v l.row.kind l lg) (laid Merge (range fifth k) (o ∷ []) at form) rights.back rights.right in
       record {
         deal_log = log;
         deal = known.0;
-        left_logs = first.front;
-        left = first.left;
-        row_logs = next.front;
-        rows = next.left;
-        column_logs = third.front;
-        columns = third.left;
-        right_logs = fourth.front;
-        right = fourth.left;
+        left_logs = lefts.front;
+        left = lefts.left;
+        row_logs = rows.front;
+        rows = rows.left;
+        column_logs = columns.front;
+        columns = columns.left;
+        right_logs = rights.front;
+        right = rights.left;
         merge_log = last.0;
         merge = last.1;
       }
@@ -82,6 +83,7 @@ module _ {N : Type 0} (b : Behaviour N) (m : ℕ) (v : View N) (at : List ℕ) (
     pub right : HaveAnswers b m v t (copies Stage (child at 2) t fourth fifth k) fifth k middle.columns
     pub merged : Merges v o k right.yss
 
+  -- each list is carried on from the deal to the last merge
   pub flows : LawOf b m v l → LawOf b m v t → is_node l ≡ true → is_node t ≡ true → has_wrap l ≡ false → has_wrap t ≡ false
       → (xs : List Rec) (known : KnownSets) → v.In i (carried xs) → Flows xs
   flows law_l law_t node_l node_t free_l free_t xs known from =

@@ -33,7 +33,7 @@ pub enum UnitKind {
     Merge,
     /// Hands its records out in turn, each as a group of its own.
     ODealRr,
-    /// The same to an out that has room, and tells its picks on its last out.
+    /// Hands each record to an out that has room, as a group of its own, and tells its picks on its last out.
     ODealOd,
     /// Brings groups together in turn.
     OMergeTurn,

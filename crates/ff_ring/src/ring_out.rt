@@ -108,6 +108,8 @@ impl<T> Outbox<T> for RingOut<T> {
 
     ghost link = { λ out. written_ring out };
 
+    // Where it stands in line, no message is copied into an answer that says only that it was put.
+    #[inline]
     fn try_put(&mut self, m: Msg<T>) -> Put<T>
         requires { IsOpen (put_of self.old) }
         ensures link { written_ring self.new ≡ written_ring self.old }

@@ -1,11 +1,15 @@
 // What no clause says: that memory is there, and that a schedule does its work.
 mod narrow;
 mod schedules;
+mod stages;
 mod units;
 
 use crate::{Core, run_schedule};
 use ff_node::{Class, Next, Node, Records, Sends};
 use ff_rec::{Field, NoMemory, Record};
+use ff_unit::Stage;
+use std::alloc::Global;
+use std::process::Abort;
 use std::test::Fail;
 
 // Sends each record on, or rejects each.
@@ -61,9 +65,18 @@ impl Node for Gate {
     fn svc_end(&mut self) {}
 }
 
-fn record(rt: &HostRuntime, bytes: &[u8]) -> Result<Record, Fail> {
-    let field = Field::new(rt.alloc(), bytes)?;
-    Ok(Record::one(rt.alloc(), &field)?)
+fn record(alloc: Global, bytes: &[u8]) -> Result<Record, Fail> {
+    let field = Field::new(alloc, bytes)?;
+    Ok(Record::one(alloc, &field)?)
+}
+
+// Records of one field each, which have spaces between them here.
+fn records(alloc: Global, fields: &str) -> Result<Records, Fail> {
+    let mut list = Records::new(alloc);
+    for field in fields.split(' ') {
+        list.push(record(alloc, field.as_bytes())?)?;
+    }
+    Ok(list)
 }
 
 // Whether a record is there, and is the one of this field.
@@ -74,13 +87,33 @@ fn shows(r: Option<&Record>, bytes: &[u8]) -> bool {
     }
 }
 
+fn gates(alloc: Global, shut: &[bool]) -> Result<Vec<Gate>, Fail> {
+    let mut nodes = Vec::new(alloc);
+    for shut in shut {
+        nodes.push(Gate { shut: *shut })?;
+    }
+    Ok(nodes)
+}
+
+// A pipeline of gates before its first step.
+fn opened(
+    rt: &impl Abort,
+    alloc: Global,
+    shut: &[bool],
+    cap: u32,
+    input: &str,
+) -> Result<Core<Stage<Gate>>, Fail> {
+    let nodes = gates(alloc, shut)?;
+    assert!(rt; !nodes.is_empty());
+    assert!(rt; nodes.len() <= 64);
+    assert!(rt; 1 <= cap && cap <= 4096);
+    let input = records(alloc, input)?;
+    Ok(Core::line(alloc, nodes, cap, true, input)?)
+}
+
 #[test]
 fn one_record_through_one_node(rt: HostRuntime) -> Result<(), Fail> {
-    let mut nodes = Vec::new(rt.alloc());
-    nodes.push(Gate { shut: false })?;
-    let mut input = Records::new(rt.alloc());
-    input.push(record(&rt, b"a")?)?;
-    let mut core = Core::line(rt.alloc(), nodes, 1, true, input)?;
+    let mut core = opened(&rt, rt.alloc(), &[false], 1, "a")?;
 
     // The feeder puts the record, the unit takes it and sends it, the drainer keeps it. No party has ended.
     assert!(rt; !run_schedule(&mut core, &[1, 0, 0, 2]));
@@ -99,13 +132,7 @@ fn one_record_through_one_node(rt: HostRuntime) -> Result<(), Fail> {
 
 #[test]
 fn rejects_along_the_pipeline(rt: HostRuntime) -> Result<(), Fail> {
-    let mut nodes = Vec::new(rt.alloc());
-    nodes.push(Gate { shut: false })?;
-    nodes.push(Gate { shut: true })?;
-    let mut input = Records::new(rt.alloc());
-    input.push(record(&rt, b"a")?)?;
-    input.push(record(&rt, b"b")?)?;
-    let mut core = Core::line(rt.alloc(), nodes, 2, true, input)?;
+    let mut core = opened(&rt, rt.alloc(), &[false, true], 2, "a b")?;
 
     // A number that names no party does nothing, nor does a step that finds its edge empty.
     assert!(rt; !run_schedule(&mut core, &[9, 4, 3, 0, 1]));

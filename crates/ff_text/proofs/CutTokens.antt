@@ -1,9 +1,9 @@
 -- What tokens of a text hold may be printed again, and so may a network that they spell.
-use Rattle.std.proofs.Common.{◌≡◌, ◌+◌, ◌<◌, ◌≤◌, ◌^◌, ◌&&◌, Bool, true, false, cond, ℕ, zero, suc, IsTrue, List, [], ◌∷◌, ◌++◌, take, map, Option, None, Some, ℤ, pos, refl, ap, subst, ◌∙◌, arith, one-add}
+use Rattle.std.proofs.Common.{◌≡◌, ◌+◌, ◌<◌, ◌≤◌, ◌^◌, ◌&&◌, Bool, true, false, cond, ℕ, zero, suc, IsTrue, List, [], ◌∷◌, take, Option, None, Some, ℤ, pos, refl, ap, subst, ◌∙◌, arith, one-add}
 use Rattle.std.proofs.lemmas.Bool.{and_parts, leb-true, ltb-true}
 use Rattle.std.proofs.lemmas.Int.{ints}
 use Rattle.std.specs.Prelude.{nat_lt, nat_le, neg_ℤ, ◌==◌}
-use Rattle.std.specs.List.{AllByRecursion, list_all, prefix_len}
+use Rattle.std.specs.List.{list_all, prefix_len}
 use Rattle.std.specs.Str.Parse.{digits_value}
 use Rattle.ff_rec.specs.Number.{IsNumber, is_numeral, number, positive, negative}
 use Rattle.ff_rec.specs.Lines.{IsPlainByte, IsPlain}

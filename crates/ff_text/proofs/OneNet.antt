@@ -118,6 +118,17 @@ form_of-same t u room xs ys h k e =
 before-mark : (w v : Tree OpState) (us vs xs ys : List Token) → (spelling w ++ us) ++ xs ≡ (spelling v ++ vs) ++ ys → spelling w ++ (us ++ xs) ≡ spelling v ++ (vs ++ ys)
 before-mark w v us vs xs ys e = sym (append_assoc (spelling w) us xs) ∙ e ∙ append_assoc (spelling v) vs ys
 
+-- what stands behind the word of a set of workers
+set-same : (n m : ℕ) (s r : Sched) (w v : Tree OpState) (xs ys : List Token)
+    → (spelling w ++ Sign Close ∷ xs ≡ spelling v ++ Sign Close ∷ ys → (w ≡ v) × (Sign Close ∷ xs ≡ Sign Close ∷ ys))
+    → count_token n ∷ Word (sched_word s) ∷ Sign Open ∷ ((spelling w ++ Sign Close ∷ []) ++ xs) ≡ count_token m ∷ Word (sched_word r) ∷ Sign Open ∷ ((spelling v ++ Sign Close ∷ []) ++ ys)
+    → (n ≡ m) × (s ≡ r) × (w ≡ v) × (xs ≡ ys)
+set-same n m s r w v xs ys workers e =
+    let words : sched_word s ≡ sched_word r = cc in
+    let inner = workers (before-mark w v (Sign Close ∷ []) (Sign Close ∷ []) xs ys (cc)) in
+    let rest = inner.1 in
+    (cc, sched_word-same s r words, inner.0, cc)
+
 mutual
   net-same : (t u : Tree OpState) (room : ℕ) (xs ys : List Token) → IsNet t room → IsNet u room → form_of t ≡ form_of u → spelling t ++ xs ≡ spelling u ++ ys
       → (t ≡ u) × (xs ≡ ys)
@@ -128,24 +139,20 @@ mutual
   net-same (Comb ts) (Comb us) (suc room) xs ys h k f e = let same = parts-same ts us room xs ys h k (cc) in (ap Comb same.0, same.1)
   net-same (Farm n s w) (Farm m r v) zero xs ys h k f e = absurd h
   net-same (Farm n s w) (Farm m r v) (suc room) xs ys h k f e =
-      let counts : n ≡ m = cc in
-      let words : sched_word s ≡ sched_word r = cc in
-      let scheds = sched_word-same s r words in
-      let behind = before-mark w v (Sign Close ∷ []) (Sign Close ∷ []) xs ys (cc) in
-      let inner = net-same w v room (Sign Close ∷ xs) (Sign Close ∷ ys) h.1 k.1 (form_of-same w v room (Sign Close ∷ xs) (Sign Close ∷ ys) h.1 k.1 behind) behind in
-      let nets = inner.0 in
-      let rest = inner.1 in
-      (cc, cc)
+      let parts = set-same n m s r w v xs ys
+      (λ same. net-same w v room (Sign Close ∷ xs) (Sign Close ∷ ys) h.1 k.1 (form_of-same w v room (Sign Close ∷ xs) (Sign Close ∷ ys) h.1 k.1 same) same) (cc) in
+      let counts = parts.0 in
+      let scheds = parts.1 in
+      let nets = parts.2 in
+      (cc, parts.3)
   net-same (OFarm n s w) (OFarm m r v) zero xs ys h k f e = absurd h
   net-same (OFarm n s w) (OFarm m r v) (suc room) xs ys h k f e =
-      let counts : n ≡ m = cc in
-      let words : sched_word s ≡ sched_word r = cc in
-      let scheds = sched_word-same s r words in
-      let behind = before-mark w v (Sign Close ∷ []) (Sign Close ∷ []) xs ys (cc) in
-      let inner = net-same w v room (Sign Close ∷ xs) (Sign Close ∷ ys) h.1 k.1 (form_of-same w v room (Sign Close ∷ xs) (Sign Close ∷ ys) h.1 k.1 behind) behind in
-      let nets = inner.0 in
-      let rest = inner.1 in
-      (cc, cc)
+      let parts = set-same n m s r w v xs ys
+      (λ same. net-same w v room (Sign Close ∷ xs) (Sign Close ∷ ys) h.1 k.1 (form_of-same w v room (Sign Close ∷ xs) (Sign Close ∷ ys) h.1 k.1 same) same) (cc) in
+      let counts = parts.0 in
+      let scheds = parts.1 in
+      let nets = parts.2 in
+      (cc, parts.3)
   net-same (A2a n l r m t) (A2a i a b j c) zero xs ys h k f e = absurd h
   net-same (A2a n l r m t) (A2a i a b j c) (suc room) xs ys h k f e =
       let us = count_token m ∷ Sign Open ∷ (spelling t ++ Sign Close ∷ []) in

@@ -1,12 +1,7 @@
 -- A network that a text can spell is in its opening states.
-use Rattle.std.proofs.Common.{◌≡◌, ℕ, zero, suc, List, [], ◌∷◌, ◌++◌, refl, sym, ap, ◌∙◌}
-use Rattle.ff_ops.specs.Families.{family_of, family_opening}
-use Rattle.ff_ops.specs.Operation.{OpState, operation, op_node}
-use Rattle.ff_ops.specs.declared.arg.Arg.{Arg}
-use Rattle.ff_ops.specs.declared.row.Row.{Row}
-use Rattle.ff_ops.specs.declared.row.Row.TheVariants.{Id}
-use Rattle.ff_net.specs.Tree.{Tree, Trees, Leaf, Pipe, Comb, Farm, OFarm, A2a, Wrap, none, more, tree_of, trees_of}
-use Rattle.ff_net.specs.declared.net.Net.{Net}
+use Rattle.std.proofs.Common.{◌≡◌, ℕ, zero, suc, refl, sym, ap, ◌∙◌}
+use Rattle.ff_ops.specs.Operation.{OpState, op_node}
+use Rattle.ff_net.specs.Tree.{Tree, Trees, Leaf, Pipe, Comb, Farm, OFarm, A2a, Wrap, none, more}
 use Rattle.ff_net.specs.Nodes.{opened, all_opened}
 use Rattle.ff_ops.proofs.Openings.{opening-operation}
 use Rattle.ff_text.specs.Grammar.{IsNet, AreParts, AreBehind}

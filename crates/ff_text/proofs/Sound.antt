@@ -25,7 +25,6 @@ use Rattle.ff_text.specs.declared.text_mark.TextMark.TheVariants.{Open, Close, C
 use Rattle.ff_text.specs.Tokens.{Token, Word, Number, Sign, Stop}
 use Rattle.ff_text.specs.OperationTokens.{mark_of, argument_token, argument}
 use Rattle.ff_text.specs.Grammar.{form_word, form_named, route_spelling, sched_word, count_token, a_count, IsCount, IsRoute, IsNet, AreParts, AreBehind}
-use Rattle.ff_net.specs.declared.net.Version.{Version}
 use Rattle.ff_text.specs.Names.{Name, Context, net_named, AreNets}
 use Rattle.ff_text.specs.Spelling.{InMarks, MarksBehind, Spells, SpellsParts, SpellsBehind}
 use Rattle.ff_text.specs.Wants.{Want, Network, Parts, Argument, Schedule, Routing, Opening, Closing, Condition, Finish, rest_of, misplaced, begin_word, begin_use, take_argument, is_sched, expand, pushed, then_run, run, start}

@@ -10,15 +10,15 @@ use Rattle.ff_text.specs.declared.form.Form.{Form}
 use Rattle.ff_text.specs.declared.text_mark.TextMark.TheVariants.{Semicolon}
 use Rattle.ff_text.specs.Tokens.{Token, Word, Number, Sign, Bad, Stop, PlacedToken}
 use Rattle.ff_text.specs.Printing.{tokens_of}
-use Rattle.ff_text.specs.Grammar.{form_word, form_named, spelling, IsNet}
+use Rattle.ff_text.specs.Grammar.{form_word, form_named, spelling, IsNet, most_forms}
 
 -- the tokens of a text that spells a network
 abbrev pub text_of : Tree OpState → List Token
 text_of t = spelling t ++ Stop ∷ []
 
--- Some text of a network begins with these tokens. A network of depth 16 has 15 forms round one another.
+-- Some text of a network begins with these tokens.
 abbrev pub Begins : List Token → Type 0
-Begins ts = (t : Tree OpState) × (more : List Token) × IsNet t 15 × (text_of t ≡ ts ++ more)
+Begins ts = (t : Tree OpState) × (more : List Token) × IsNet t most_forms × (text_of t ≡ ts ++ more)
 
 -- a network may stand next, since `id` may
 abbrev pub AwaitsNet : List Token → Type 0

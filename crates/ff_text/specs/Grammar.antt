@@ -1,11 +1,11 @@
 -- How networks are spelled by tokens.
-use Rattle.std.specs.Prelude.{ℕ, zero, suc, IsTrue, List, [], ◌∷◌, ◌++◌, codes, find, Option, Some, pos}
+use Rattle.std.specs.Prelude.{ℕ, zero, suc, ◌-◌, IsTrue, List, [], ◌∷◌, ◌++◌, codes, find, Option, Some, pos}
 use Rattle.ff_rec.specs.Fields.{same_bytes}
 use Rattle.ff_ops.specs.Operation.{OpState}
-use Rattle.ff_ops.specs.declared.arg.Arg.{Arg}
 use Rattle.ff_ops.specs.declared.arg.Arg.TheVariants.{Num}
 use Rattle.ff_ops.specs.declared.arg.ArgKind.{ArgKind}
 use Rattle.ff_ops.specs.declared.arg.ArgKind.TheVariants.{Count}
+use Rattle.ff_net.specs.Limits.{most_depth}
 use Rattle.ff_net.specs.Tree.{Tree, Trees, Leaf, Pipe, Comb, Farm, OFarm, A2a, Wrap, none, more}
 use Rattle.ff_net.specs.declared.net.Sched.{Sched}
 use Rattle.ff_net.specs.declared.net.Sched.TheVariants.{Rr, Od}
@@ -110,3 +110,7 @@ abbrev mutual
   pub AreBehind : Trees OpState → ℕ → Type 0
   AreBehind none room = Unit {0}
   AreBehind (more t ts) room = IsNet t room × AreBehind ts room
+
+-- how many forms may stand round one another: one less than the depth that a network may have
+abbrev pub most_forms : ℕ
+most_forms = most_depth - 1

@@ -2,12 +2,13 @@
 use Rattle.std.specs.Prelude.{◌≡◌, ℕ, ◌≤◌, List, length}
 use Rattle.std.specs.List.{AllByRecursion}
 use Rattle.ff_rec.specs.Number.{IsNumber}
+use Rattle.ff_rec.specs.declared.limits.TheConstants.{LONGEST_TEXT}
 use Rattle.ff_ops.specs.Operation.{OpState, op_node}
 use Rattle.ff_net.specs.Tree.{Tree, Trees, Leaf, Pipe, Comb, Farm, OFarm, A2a, Wrap, none, more}
 use Rattle.ff_text.specs.Cutting.{tokens}
 use Rattle.ff_text.specs.Printing.{IsPrintable, tokens_of}
 use Rattle.ff_text.specs.OperationTokens.{argument_token}
-use Rattle.ff_text.specs.Grammar.{IsNet}
+use Rattle.ff_text.specs.Grammar.{IsNet, most_forms}
 use Rattle.ff_text.specs.Faults.{text_of}
 use Rattle.ff_text.specs.NetPrinting.{printed_net}
 use Rattle.ff_net.specs.Nodes.{opened}
@@ -36,14 +37,14 @@ PrintedNetsAreSpelled = (t : Tree OpState) (room : ℕ) → IsNet t room → Can
 
 -- Bytes are a text of this network and of no other, and no fault is found in them.
 pub record IsTextOf (text : List ℕ) (t : Tree OpState) : Type 0 where
-  pub net : IsNet t 15
+  pub net : IsNet t most_forms
   pub spelled : tokens_of (tokens text) ≡ text_of t
-  pub only : (u : Tree OpState) → IsNet u 15 → tokens_of (tokens text) ≡ text_of u → u ≡ t
+  pub only : (u : Tree OpState) → IsNet u most_forms → tokens_of (tokens text) ≡ text_of u → u ≡ t
   pub faultless : (fault : ReadFault) → IsReadFault text fault → fault ≡ NoMemory
 
 -- What is printed of a network, whatever its nodes have done, is read as the network with its nodes before their first
 -- records, where it isn't too long for a text.
 abbrev pub PrintedNetsAreReadAgain : Type 0
 PrintedNetsAreReadAgain =
-    (t : Tree OpState) → IsNet (opened op_node t) 15 → CanPrint (opened op_node t) → length (printed_net t) ≤ 65536
+    (t : Tree OpState) → IsNet (opened op_node t) most_forms → CanPrint (opened op_node t) → length (printed_net t) ≤ LONGEST_TEXT
     → IsTextOf (printed_net t) (opened op_node t)

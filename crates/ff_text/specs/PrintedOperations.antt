@@ -11,7 +11,7 @@ use Rattle.ff_text.specs.Tokens.{Stop}
 use Rattle.ff_text.specs.Cutting.{tokens}
 use Rattle.ff_text.specs.Printing.{IsPrintable, tokens_of}
 use Rattle.ff_text.specs.OperationTokens.{argument_token, spelling}
-use Rattle.ff_text.specs.Grammar.{IsNet}
+use Rattle.ff_text.specs.Grammar.{IsNet, most_forms}
 use Rattle.ff_text.specs.Faults.{text_of}
 
 -- an operation whose arguments bytes can stand for is printed as what spells it
@@ -22,4 +22,4 @@ PrintedOpIsSpelling = (o : OpState) → AllByRecursion (λ a. IsPrintable (argum
 abbrev pub PrintedOpIsRead : Type 0
 PrintedOpIsRead =
     (row : Row) (args : List Arg) (o : OpState) → read_op (name_of row) args ≡ Ok o → AllByRecursion (λ a. IsPrintable (argument_token a)) args
-    → IsNet (Leaf o) 15 × (tokens_of (tokens (printed_op row args)) ≡ text_of (Leaf o))
+    → IsNet (Leaf o) most_forms × (tokens_of (tokens (printed_op row args)) ≡ text_of (Leaf o))

@@ -1,5 +1,6 @@
 -- What the code's readers answer, each for its wants.
 use Rattle.std.specs.Prelude.{◌≡◌, ℕ, ◌<◌, ◌≤◌, length, Bool, true, false, List, [], ◌∷◌, ◌++◌, Result, Ok, Err}
+use Rattle.ff_rec.specs.declared.limits.TheConstants.{LONGEST_TEXT}
 use Rattle.ff_text.specs.declared.fault.ReadFault.{ReadFault}
 use Rattle.ff_text.specs.declared.fault.ReadFault.TheVariants.{Text, TooLong, NoMemory}
 use Rattle.ff_text.specs.declared.fault.TextKind.{TextKind}
@@ -39,6 +40,6 @@ IsStopped context us NoMemory spots = Unit {0}
 
 -- Why a text isn't read: it is too long, or it has a first fault. Want of memory says nothing of the text.
 abbrev pub IsReadFault : List ℕ → ReadFault → Type 0
-IsReadFault text (Text at kind) = (length text ≤ 65536) × IsFault (tokens text) (record { at = at; kind = kind })
-IsReadFault text TooLong = 65536 < length text
+IsReadFault text (Text at kind) = (length text ≤ LONGEST_TEXT) × IsFault (tokens text) (record { at = at; kind = kind })
+IsReadFault text TooLong = LONGEST_TEXT < length text
 IsReadFault text NoMemory = Unit {0}

@@ -3,7 +3,7 @@ use Rattle.std.specs.Prelude.{◌≡◌, ◌↔◌, List, [], ◌∷◌, Ok, Err
 use Rattle.ff_ops.specs.Operation.{OpState}
 use Rattle.ff_net.specs.Tree.{Tree}
 use Rattle.ff_text.specs.Tokens.{Token, Stop, PlacedToken}
-use Rattle.ff_text.specs.Grammar.{IsNet}
+use Rattle.ff_text.specs.Grammar.{IsNet, most_forms}
 use Rattle.ff_text.specs.Faults.{Fault, IsFault}
 use Rattle.ff_text.specs.Names.{Context, AreNets, one}
 use Rattle.ff_text.specs.Spelling.{Spells}
@@ -13,7 +13,7 @@ use Rattle.ff_text.specs.Wants.{run, walk, start}
 abbrev pub TextsAreTaken : Type 0
 TextsAreTaken =
     (context : Context) → AreNets context.names → (ts : List Token)
-    → ((t : Tree OpState) × IsNet t 15 × Spells context.names t ts (Stop ∷ [])) ↔ (run context ts start ≡ Ok [])
+    → ((t : Tree OpState) × IsNet t most_forms × Spells context.names t ts (Stop ∷ [])) ↔ (run context ts start ≡ Ok [])
 
 -- where the machine of version One stops is the first fault
 abbrev pub StopsAreFaults : Type 0

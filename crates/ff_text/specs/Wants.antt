@@ -13,15 +13,15 @@ use Rattle.ff_ops.specs.declared.row.Row.{Row}
 use Rattle.ff_net.specs.Counts.{depth}
 use Rattle.ff_net.specs.Tree.{Tree}
 use Rattle.ff_net.specs.declared.net.Version.{Version}
-use Rattle.ff_net.specs.declared.net.Version.TheVariants.{One, Two}
+use Rattle.ff_net.specs.declared.net.Version.TheVariants.{One}
 use Rattle.ff_text.specs.declared.fault.TextKind.{TextKind}
 use Rattle.ff_text.specs.declared.fault.TextKind.TheVariants.{BadByte, BadToken, UnknownName, Range, Deep, End}
 use Rattle.ff_text.specs.declared.form.Form.{Form}
 use Rattle.ff_text.specs.declared.form.Form.TheVariants.{Pipe, Comb, Farm, OFarm, A2a, Wrap}
-use Rattle.ff_text.specs.declared.text_mark.TextMark.TheVariants.{Open, Close, Comma, Less, AtMost, Equal, Unequal, AtLeast, Greater, Semicolon}
-use Rattle.ff_text.specs.Tokens.{Token, Word, Number, Sign, Quoted, Bad, Stop, PlacedToken}
+use Rattle.ff_text.specs.declared.text_mark.TextMark.TheVariants.{Open, Close, Comma, Semicolon}
+use Rattle.ff_text.specs.Tokens.{Token, Word, Number, Sign, Bad, Stop, PlacedToken}
 use Rattle.ff_text.specs.OperationTokens.{argument}
-use Rattle.ff_text.specs.Grammar.{form_named, a_count}
+use Rattle.ff_text.specs.Grammar.{form_named, a_count, most_forms}
 use Rattle.ff_text.specs.Faults.{Fault}
 use Rattle.ff_text.specs.Names.{Context, net_named}
 
@@ -137,6 +137,6 @@ abbrev pub walk : Context → List PlacedToken → List Want → Result (List Wa
 walk context [] ws = Ok ws
 walk context (s ∷ ss) ws = then_walk s.at (walk context ss) (step context ws s.token)
 
--- a whole text of depth 16 at most
+-- a whole text
 abbrev pub start : List Want
-start = Network 15 ∷ Finish ∷ []
+start = Network most_forms ∷ Finish ∷ []

@@ -1,7 +1,7 @@
 // What marks and words of a text may mean.
 ghost use Rattle.std.specs.Prelude.{◌≡◌, [], ◌∷◌, ◌++◌, map, IfSome, OnOk, MatchOption, Some, None};
 ghost use Rattle.ff_net.specs.Tree.{tree_of};
-ghost use Rattle.ff_text.specs.Grammar.{IsNet};
+ghost use Rattle.ff_text.specs.Grammar.{IsNet, most_forms};
 ghost use Rattle.ff_text.specs.Names.{net_named, AreNets};
 ghost use Rattle.ff_text.specs.Seen.{name_of, context_of, names_of};
 
@@ -40,7 +40,7 @@ impl Context {
         requires { AreNets (names_of self.now) }
         ensures found { MatchOption result (net_named (names_of self.now) word.now ≡ None)
             (λ net. net_named (names_of self.now) word.now ≡ Some (tree_of net.now)) }
-        ensures fits { IfSome result (λ net. IsNet (tree_of net.now) 15) }
+        ensures fits { IfSome result (λ net. IsNet (tree_of net.now) most_forms) }
     {
         net_of(&self.names, word)
     }
@@ -50,7 +50,7 @@ impl Context {
         ensures version { self.new.version ≡ self.old.version }
         ensures names { OnOk result
             (names_of self.new ≡ names_of self.old ++ name_of named ∷ []) }
-        ensures nets { AreNets (names_of self.old) → IsNet (tree_of named.net) 15
+        ensures nets { AreNets (names_of self.old) → IsNet (tree_of named.net) most_forms
             → OnOk result (AreNets (names_of self.new)) }
     {
         self.names.push(named)?;
@@ -63,7 +63,7 @@ fn net_of<'a>(names: &'a [NamedNet], word: &[u8]) -> Option<&'a Net<Op>>
     requires { AreNets (map name_of names.now) }
     ensures found { MatchOption result (net_named (map name_of names.now) word.now ≡ None)
         (λ net. net_named (map name_of names.now) word.now ≡ Some (tree_of net.now)) }
-    ensures fits { IfSome result (λ net. IsNet (tree_of net.now) 15) }
+    ensures fits { IfSome result (λ net. IsNet (tree_of net.now) most_forms) }
 {
     for named in names {
         if named.word.as_slice() == word {

@@ -5,7 +5,7 @@ ghost use Rattle.ff_net.specs.Tree.{tree_of};
 ghost use Rattle.ff_ops.specs.Operation.{op_node};
 ghost use Rattle.ff_text.specs.Cutting.{tokens};
 ghost use Rattle.ff_text.specs.Faults.{text_of};
-ghost use Rattle.ff_text.specs.Grammar.{IsNet};
+ghost use Rattle.ff_text.specs.Grammar.{IsNet, most_forms};
 ghost use Rattle.ff_text.specs.PrintLaw.{CanPrint};
 ghost use Rattle.ff_text.specs.Printing.{tokens_of};
 ghost use Rattle.ff_text.specs.Reading.{IsStopped, IsReadFault};
@@ -22,6 +22,7 @@ use crate::network::network;
 use crate::{ReadFault, Reader, Token};
 use ff_net::{Net, Version};
 use ff_ops::Op;
+use ff_rec::LONGEST_TEXT;
 use std::alloc::Global;
 
 /// A network, and the version of the text that describes it.
@@ -31,23 +32,20 @@ pub struct Described {
     pub net: Net<Op>,
 }
 
-/// The most bytes that a text of version One has.
-pub const MOST_BYTES: usize = 65_536;
-
-/// How many forms may stand round one another: networks have a depth of at most 16.
+/// How many forms may stand round one another: one less than the depth that a network may have.
 const MOST_FORMS: usize = 15;
 
 /// The network that a text spells, with its nodes before their first records.
 pub fn read_net(alloc: Global, text: &[u8]) -> Result<Described, ReadFault>
     ensures version { IfOk result (λ d. d.version ≡ Version.One) }
-    ensures net { IfOk result (λ d. IsNet (tree_of d.net) 15) }
+    ensures net { IfOk result (λ d. IsNet (tree_of d.net) most_forms) }
     ensures text { IfOk result (λ d. tokens_of (tokens text.now) ≡ text_of (tree_of d.net)) }
     ensures opening { IfOk result (λ d. opened op_node (tree_of d.net) ≡ tree_of d.net) }
     ensures printable { IfOk result (λ d. CanPrint (tree_of d.net)) }
-    ensures within { OnOk result (length text.now ≤ 65536) }
+    ensures within { OnOk result (length text.now ≤ LONGEST_TEXT) }
     ensures fault { IfErr result (λ fault. IsReadFault text.now fault) }
 {
-    if text.len() > MOST_BYTES {
+    if text.len() > LONGEST_TEXT {
         return Err(ReadFault::TooLong);
     }
     let context = Context::new(alloc, Version::One);

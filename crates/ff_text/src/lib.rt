@@ -25,7 +25,7 @@ mod token;
 mod token_argument;
 mod wrap_test;
 
-pub use described::{Described, MOST_BYTES, read_net};
+pub use described::{Described, read_net};
 pub use fault::{ReadFault, TextKind};
 pub use laws::{
     forms_round_one_another_are_the_depth, networks_spelled_alike_are_the_same,

@@ -11,9 +11,9 @@ use Rattle.ff_top.specs.Commands.{DoneWith, given_to}
 use Rattle.ff_top.specs.Endings.{Did, Comes, Counts, IsAccepted, IsRefused, description}
 use Rattle.ff_top.specs.Outside.{Outside, IsQuiet}
 use Rattle.ff_top.specs.Texts.{version, IsText, IsKnown, IsSpelled, IsLong, IsBadText, IsBroken}
-use Rattle.ff_top.specs.declared.check.CheckFault.TheVariants as check
+use Rattle.ff_top.specs.declared.print.PrintFault.TheVariants as print
 use Rattle.ff_top.specs.declared.fault.Fault.{Fault}
-use Rattle.ff_top.specs.declared.fault.Fault.TheVariants.{Words, NotBuilt, Given, Run, Check}
+use Rattle.ff_top.specs.declared.fault.Fault.TheVariants.{Words, NotBuilt, Given, Run, Print}
 use Rattle.ff_top.specs.declared.given_fault.GivenFault.TheVariants as given
 use Rattle.ff_top.specs.declared.run_cause.RunCause.TheVariants as run
 use Rattle.ff_words.specs.Words.{command}
@@ -92,7 +92,7 @@ module _ (one : SpellingIsOfOneNet) (words : List (List ℕ)) (before now : Outs
   IsStop (Words unread.NoMemory) = Unit {0}
   IsStop (Given given.NoMemory) = Unit {0}
   IsStop (Run run.NoMemory) = Unit {0}
-  IsStop (Check check.NoMemory) = Unit {0}
+  IsStop (Print print.NoMemory) = Unit {0}
   IsStop _ = ⊥
 
   pub IsStop-accepted : (fault : Fault) (job : Command) (t : Tree OpState) → IsQuiet before now → IsAccepted words before job t → Comes words before now (Err fault)
@@ -112,5 +112,5 @@ module _ (one : SpellingIsOfOneNet) (words : List (List ℕ)) (before now : Outs
   IsStop-accepted (Run (run.Read n)) job t quiet a comes counts = quiet.input (Rose-more before.input_faults now.input_faults counts.input)
   IsStop-accepted (Run (run.Line f n)) job t quiet a comes counts = comes
   IsStop-accepted (Run run.NoMemory) job t quiet a comes counts = tt
-  IsStop-accepted (Check check.Write) job t quiet a comes counts = quiet.output (Rose-more before.output_faults now.output_faults counts.output)
-  IsStop-accepted (Check check.NoMemory) job t quiet a comes counts = tt
+  IsStop-accepted (Print print.Write) job t quiet a comes counts = quiet.output (Rose-more before.output_faults now.output_faults counts.output)
+  IsStop-accepted (Print print.NoMemory) job t quiet a comes counts = tt

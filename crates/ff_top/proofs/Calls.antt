@@ -16,14 +16,14 @@ use Rattle.ff_top.proofs.Accepted.{None-description, Did-accepted, Did-refused, 
 use Rattle.ff_top.proofs.Limited.{limit_by-left}
 use Rattle.ff_top.specs.Commands.{DoneWith, given_to, IsInLimits, IsBeyond}
 use Rattle.ff_top.specs.Endings.{Did, Comes, Counts, IsAccepted, IsRefused, IsComplete, description}
-use Rattle.ff_top.specs.Messages.{fault_status, given_status, run_status, check_status, status_of}
+use Rattle.ff_top.specs.Messages.{fault_status, given_status, run_status, print_status, status_of}
 use Rattle.ff_top.specs.Outside.{Outside, IsQuiet, streams_of}
 use Rattle.ff_top.specs.Running.{run_job}
 use Rattle.ff_top.specs.Texts.{version}
-use Rattle.ff_top.specs.declared.check.CheckFault.{CheckFault}
-use Rattle.ff_top.specs.declared.check.CheckFault.TheVariants as check
+use Rattle.ff_top.specs.declared.print.PrintFault.{PrintFault}
+use Rattle.ff_top.specs.declared.print.PrintFault.TheVariants as print
 use Rattle.ff_top.specs.declared.fault.Fault.{Fault}
-use Rattle.ff_top.specs.declared.fault.Fault.TheVariants.{Words, NotBuilt, Given, Run, Check}
+use Rattle.ff_top.specs.declared.fault.Fault.TheVariants.{Words, NotBuilt, Given, Run, Print}
 use Rattle.ff_top.specs.declared.given_fault.GivenFault.{GivenFault}
 use Rattle.ff_top.specs.declared.given_fault.GivenFault.TheVariants as given
 use Rattle.ff_top.specs.declared.run_cause.RunCause.{RunCause}
@@ -85,6 +85,7 @@ module _ (law : ReadingLaw) (one : SpellingIsOfOneNet) (words : List (List ℕ))
   done-tasks : (job : Command) (t : Tree OpState) (m : ℕ) → IsQuiet before now → IsInLimits job t before.left → DoneWith job t before now (Err (Run (run.Tasks m))) → ⊥
   done-tasks (of.Run given cap queue tasks one rejects) t m quiet within d = Overrun-within t tasks rejects quiet d.1 within
   done-tasks (of.Check given) t m quiet within d = d
+  done-tasks (of.Plan given) t m quiet within d = d
   done-tasks _ t m quiet within d = d
 
   done-line : (job : Command) (t : Tree OpState) (f : LineFault) (n : ℕ) → IsInLimits job t before.left → DoneWith job t before now (Err (Run (run.Line f n))) → ⊥
@@ -92,6 +93,7 @@ module _ (law : ReadingLaw) (one : SpellingIsOfOneNet) (words : List (List ℕ))
       let input = known before.left _ within in
       None-Some (limit_by version input.0) f input.2.0 (limited law before.left now.left d.ran.got input.0 f d.ran.reads d.ran.stops input.1)
   done-line (of.Check given) t f n within d = d
+  done-line (of.Plan given) t f n within d = d
   done-line _ t f n within d = d
 
   -- a command that was done is within its limits
@@ -107,6 +109,7 @@ module _ (law : ReadingLaw) (one : SpellingIsOfOneNet) (words : List (List ℕ))
         | inr over ↦ over (subst (λ xs. Fine op_node tasks t xs) (at_end d.ran.got bytes now.ended same stops.1) d.ran.answers.fine)
       ]
   beyond-done (of.Check given) t n beyond d = beyond
+  beyond-done (of.Plan given) t n beyond d = beyond
   beyond-done _ t n beyond d = beyond
 
   done-status : (status : ℕ) (fault : Fault) (job : Command) (t : Tree OpState) → status ≡ fault_status fault → IsQuiet before now → IsAccepted words before job t → IsInLimits job t before.left
@@ -116,7 +119,7 @@ module _ (law : ReadingLaw) (one : SpellingIsOfOneNet) (words : List (List ℕ))
   done-status status (Words unread.NoMemory) job t is quiet a within stop = inr is
   done-status status (Given given.NoMemory) job t is quiet a within stop = inr is
   done-status status (Run run.NoMemory) job t is quiet a within stop = inr is
-  done-status status (Check check.NoMemory) job t is quiet a within stop = inr is
+  done-status status (Print print.NoMemory) job t is quiet a within stop = inr is
   done-status status _ job t is quiet a within stop = absurd stop
 
   beyond-status : (status : ℕ) (fault : Fault) → status ≡ fault_status fault → IsStop one words before now fault → (status ≡ 3) ⊎ (status ≡ 6)
@@ -125,7 +128,7 @@ module _ (law : ReadingLaw) (one : SpellingIsOfOneNet) (words : List (List ℕ))
   beyond-status status (Words unread.NoMemory) is stop = inr is
   beyond-status status (Given given.NoMemory) is stop = inr is
   beyond-status status (Run run.NoMemory) is stop = inr is
-  beyond-status status (Check check.NoMemory) is stop = inr is
+  beyond-status status (Print print.NoMemory) is stop = inr is
   beyond-status status _ is stop = absurd stop
 
   refused-status : (status : ℕ) (fault : Fault) → status ≡ fault_status fault → IsQuiet before now → IsRefused words before → Comes words before now (Err fault) → Counts before now (Err fault)
@@ -137,7 +140,7 @@ module _ (law : ReadingLaw) (one : SpellingIsOfOneNet) (words : List (List ℕ))
   refused-status status (Given given.NoMemory) is quiet r comes counts = inr is
   refused-status status (Given fault) is quiet r comes counts = inl is
   refused-status status (Run cause) is quiet r comes counts = absurd (Did-refused one words before now (Err (Run cause)) r comes)
-  refused-status status (Check fault) is quiet r comes counts = absurd (Did-refused one words before now (Err (Check fault)) r comes)
+  refused-status status (Print fault) is quiet r comes counts = absurd (Did-refused one words before now (Err (Print fault)) r comes)
 
   pub complete : (status : ℕ) (answer : Result ℕ Fault) → status ≡ status_of answer → Comes words before now answer → Counts before now answer → IsComplete status words before now
   complete status (Ok n) is comes counts = record {
@@ -168,9 +171,9 @@ run_low run.Refused = omega arith
 run_low (run.Tasks m) = omega arith
 run_low _ = omega arith
 
-check_low : (fault : CheckFault) → 2 ≤ check_status fault
-check_low check.Write = omega arith
-check_low check.NoMemory = omega arith
+print_low : (fault : PrintFault) → 2 ≤ print_status fault
+print_low print.Write = omega arith
+print_low print.NoMemory = omega arith
 
 -- which status comes with which answer
 module _ (words : List (List ℕ)) (before now : Outside) where
@@ -180,7 +183,7 @@ module _ (words : List (List ℕ)) (before now : Outside) where
   fault_usage NotBuilt comes is = absurd (omega arith)
   fault_usage (Given fault) comes is = absurd (omega (arith, given_low fault))
   fault_usage (Run cause) comes is = absurd (omega (arith, run_low cause))
-  fault_usage (Check fault) comes is = absurd (omega (arith, check_low fault))
+  fault_usage (Print fault) comes is = absurd (omega (arith, print_low fault))
 
   pub usage : (status : ℕ) (answer : Result ℕ Fault) → status ≡ status_of answer → Comes words before now answer → status ≡ 1 → command words ≡ None
   usage status (Ok n) is comes one = absurd (omega arith)
@@ -192,7 +195,7 @@ module _ (words : List (List ℕ)) (before now : Outside) where
   fault_not_0 NotBuilt is = omega arith
   fault_not_0 (Given fault) is = omega (arith, given_low fault)
   fault_not_0 (Run cause) is = omega (arith, run_low cause)
-  fault_not_0 (Check fault) is = omega (arith, check_low fault)
+  fault_not_0 (Print fault) is = omega (arith, print_low fault)
 
   pub done : (status : ℕ) (answer : Result ℕ Fault) → status ≡ status_of answer → Comes words before now answer → status ≡ 0 → (rejected : ℕ) × Did words before now (Ok rejected)
   done status (Ok n) is comes zero = (n, comes)
@@ -204,7 +207,7 @@ module _ (words : List (List ℕ)) (before now : Outside) where
   fault_no_command status NotBuilt is comes none = absurd (some_command words none comes.0.is_command)
   fault_no_command status (Given fault) is comes none = absurd (None-given words none _ comes.0)
   fault_no_command status (Run cause) is comes none = absurd (None-Some (command words) comes.job none comes.is_command)
-  fault_no_command status (Check fault) is comes none = absurd (None-Some (command words) comes.job none comes.is_command)
+  fault_no_command status (Print fault) is comes none = absurd (None-Some (command words) comes.job none comes.is_command)
 
   pub no_command : (status : ℕ) (answer : Result ℕ Fault) → status ≡ status_of answer → Comes words before now answer → command words ≡ None → (status ≡ 1) ⊎ (status ≡ 6)
   no_command status (Ok n) is comes none = absurd (None-Some (command words) comes.job none comes.is_command)
@@ -224,5 +227,5 @@ Contains-status status (Err (Run (run.Tasks m))) is = (3, omega arith, sym is)
 Contains-status status (Err (Run (run.Line f n))) is = (3, omega arith, sym is)
 Contains-status status (Err (Run run.NoMemory)) is = (6, omega arith, sym is)
 Contains-status status (Err (Run cause)) is = (4, omega arith, sym is)
-Contains-status status (Err (Check check.Write)) is = (4, omega arith, sym is)
-Contains-status status (Err (Check check.NoMemory)) is = (6, omega arith, sym is)
+Contains-status status (Err (Print print.Write)) is = (4, omega arith, sym is)
+Contains-status status (Err (Print print.NoMemory)) is = (6, omega arith, sym is)

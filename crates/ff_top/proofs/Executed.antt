@@ -20,7 +20,7 @@ use Rattle.ff_top.specs.declared.run_cause.RunCause.{RunCause}
 use Rattle.ff_top.specs.declared.run_cause.RunCause.TheVariants.{Refused, Tasks, Write, Rejects, Read, Line, NoMemory}
 use Rattle.ff_words.specs.Words.{command}
 use Rattle.ff_words.specs.declared.command.Command.{Command}
-use Rattle.ff_words.specs.declared.command.Command.TheVariants.{Run, Check}
+use Rattle.ff_words.specs.declared.command.Command.TheVariants.{Run, Check, Plan}
 use Rattle.ff_words.specs.declared.command.Given.{Given}
 
 -- nothing was done but to read the text, which keeps the files
@@ -81,14 +81,16 @@ module _ (j : Job OpState) (threads : Bool) (rejects : Option (List ℕ)) (befor
 -- the faults that come once a command has a network
 abbrev IsLate : Fault → Type 0
 IsLate (fault.Run cause) = Unit {0}
-IsLate (fault.Check cause) = Unit {0}
+IsLate (fault.Print cause) = Unit {0}
 IsLate _ = ⊥
 
 IsLate-done : (job : Command) (t : Tree OpState) (before now : Outside) (f : Fault) → DoneWith job t before now (Err f) → IsLate f
 IsLate-done (Run given cap queue tasks one rejects) t before now (fault.Run cause) h = tt
 IsLate-done (Run given cap queue tasks one rejects) t before now f h = absurd h
-IsLate-done (Check given) t before now (fault.Check cause) h = tt
+IsLate-done (Check given) t before now (fault.Print cause) h = tt
 IsLate-done (Check given) t before now f h = absurd h
+IsLate-done (Plan given) t before now (fault.Print cause) h = tt
+IsLate-done (Plan given) t before now f h = absurd h
 IsLate-done job t before now f h = absurd h
 
 -- what holds of the text that is given, said of the words
@@ -102,7 +104,7 @@ module _ (words : List (List ℕ)) (before now : Outside) where
   Comes-did : (answer : Result ℕ Fault) → Did words before now answer → Comes words before now answer
   Comes-did (Ok n) d = d
   Comes-did (Err (fault.Run cause)) d = d
-  Comes-did (Err (fault.Check cause)) d = d
+  Comes-did (Err (fault.Print cause)) d = d
   Comes-did (Err f) d = absurd (IsLate-done d.job d.net before now f d.done)
 
   Comes-handled : (job : Command) (given : Given) (answer : Result ℕ Fault) → command words ≡ Some job → description words ≡ Some given

@@ -1,5 +1,5 @@
 -- How a run ends, from how its network answered and how the file for the rejected records did.
-use Rattle.std.proofs.Common.{◌≡◌, ℕ, List, [], Option, None, Some, refl, sym, ap, subst, ◌∙◌, inl, inr, append-nil}
+use Rattle.std.proofs.Common.{◌≡◌, ℕ, List, [], Option, None, Some, refl, sym, subst, inl, inr, append-nil}
 use Rattle.std.specs.Prelude.{Bool, true, Result, Ok, Err}
 use Rattle.ff_rec.specs.Lines.{Rec, text}
 use Rattle.ff_io.specs.FileLaws.{KeepsOthers-from_KeepsAll}
@@ -91,63 +91,38 @@ StaysOrRises-stop stop.End before now e = inl e
 StaysOrRises-stop stop.Read before now e = inr e
 StaysOrRises-stop (stop.Line fault) before now e = inl e
 
-CountsRun-closing : (why : Stop) (n before now : ℕ) → now ≡ stop_count before why → CountsRun before now (closing why n)
-CountsRun-closing stop.End n before now e = e
-CountsRun-closing stop.Read n before now e = e
-CountsRun-closing (stop.Line fault) n before now e = e
+-- the counts that the answer of a network leaves, by the answer of its run: of the faults of the input, which was at `before`
+-- and is at `now`, of the output's, and of refused starts
+abbrev pub HasCounts : ℕ → ℕ → ℕ → ℕ → Result Ending NetFault → Result ℕ RunCause → Type 0
+HasCounts before now output starts over answer =
+    CountsRun before now answer
+    × (net_output_count output over ≡ count_by run_output output answer)
+    × (refused_count starts over ≡ count_by run_refused starts answer)
 
-output-closing : (why : Stop) (k n : ℕ) → n ≡ count_by run_output n (closing why k)
-output-closing stop.End k n = refl
-output-closing stop.Read k n = refl
-output-closing (stop.Line fault) k n = refl
+module _ (before now output starts : ℕ) where
+  HasCounts-closing : (ending : Ending) (why : Stop) (n : ℕ) → now ≡ stop_count before why → HasCounts before now output starts (Ok ending) (closing why n)
+  HasCounts-closing ending stop.End n e = (e, refl, refl)
+  HasCounts-closing ending stop.Read n e = (e, refl, refl)
+  HasCounts-closing ending (stop.Line fault) n e = (e, refl, refl)
 
-refused-closing : (why : Stop) (k n : ℕ) → n ≡ count_by run_refused n (closing why k)
-refused-closing stop.End k n = refl
-refused-closing stop.Read k n = refl
-refused-closing (stop.Line fault) k n = refl
-
-module _ (tasks : ℕ) (rejects : Option (List ℕ)) (told told_now : Option Holdings) (before now : ℕ) where
-  pub CountsRun-finished : (over : Result Ending NetFault) (answer : Result ℕ RunCause) → CountsNetInput before now over
-      → Finished tasks rejects over told told_now answer → CountsRun before now answer
-  CountsRun-finished (Ok ending) answer counts finished = elim finished [
-    | inl closed ↦ subst (λ (a : Result ℕ RunCause). CountsRun before now a) (sym closed.0)
-        (CountsRun-closing ending.stop ending.report.rejected before now counts)
-    | inr other ↦ elim other [
-      | inl failed ↦ subst (λ (a : Result ℕ RunCause). CountsRun before now a) (sym failed.is) (StaysOrRises-stop ending.stop before now counts)
-      | inr short ↦ subst (λ (a : Result ℕ RunCause). CountsRun before now a) (sym short.0) (StaysOrRises-stop ending.stop before now counts)
-    ]
-  ]
-  CountsRun-finished (Err net.Refused) answer counts finished = subst (λ (a : Result ℕ RunCause). CountsRun before now a) (sym finished.0) counts
-  CountsRun-finished (Err (net.Run run.Tasks)) answer counts finished = subst (λ (a : Result ℕ RunCause). CountsRun before now a) (sym finished.0) counts
-  CountsRun-finished (Err (net.Run run.Write)) answer counts finished = subst (λ (a : Result ℕ RunCause). CountsRun before now a) (sym finished.0) counts
-  CountsRun-finished (Err (net.Run run.NoMemory)) answer counts finished = subst (λ (a : Result ℕ RunCause). CountsRun before now a) (sym finished.0) counts
-
-  -- only a write that failed raised the count of the output's faults
-  pub output-finished : (over : Result Ending NetFault) (answer : Result ℕ RunCause) → Finished tasks rejects over told told_now answer
-      → net_output_count before over ≡ count_by run_output before answer
-  output-finished (Ok ending) answer finished = elim finished [
-    | inl closed ↦ output-closing ending.stop ending.report.rejected before ∙ ap (λ (a : Result ℕ RunCause). count_by run_output before a) (sym closed.0)
-    | inr other ↦ elim other [
-      | inl failed ↦ ap (λ (a : Result ℕ RunCause). count_by run_output before a) (sym failed.is)
-      | inr short ↦ ap (λ (a : Result ℕ RunCause). count_by run_output before a) (sym short.0)
-    ]
-  ]
-  output-finished (Err net.Refused) answer finished = ap (λ (a : Result ℕ RunCause). count_by run_output before a) (sym finished.0)
-  output-finished (Err (net.Run run.Tasks)) answer finished = ap (λ (a : Result ℕ RunCause). count_by run_output before a) (sym finished.0)
-  output-finished (Err (net.Run run.Write)) answer finished = ap (λ (a : Result ℕ RunCause). count_by run_output before a) (sym finished.0)
-  output-finished (Err (net.Run run.NoMemory)) answer finished = ap (λ (a : Result ℕ RunCause). count_by run_output before a) (sym finished.0)
-
-  -- only a start that was refused raised the count of these
-  pub refused-finished : (over : Result Ending NetFault) (answer : Result ℕ RunCause) → Finished tasks rejects over told told_now answer
-      → refused_count before over ≡ count_by run_refused before answer
-  refused-finished (Ok ending) answer finished = elim finished [
-    | inl closed ↦ refused-closing ending.stop ending.report.rejected before ∙ ap (λ (a : Result ℕ RunCause). count_by run_refused before a) (sym closed.0)
-    | inr other ↦ elim other [
-      | inl failed ↦ ap (λ (a : Result ℕ RunCause). count_by run_refused before a) (sym failed.is)
-      | inr short ↦ ap (λ (a : Result ℕ RunCause). count_by run_refused before a) (sym short.0)
-    ]
-  ]
-  refused-finished (Err net.Refused) answer finished = ap (λ (a : Result ℕ RunCause). count_by run_refused before a) (sym finished.0)
-  refused-finished (Err (net.Run run.Tasks)) answer finished = ap (λ (a : Result ℕ RunCause). count_by run_refused before a) (sym finished.0)
-  refused-finished (Err (net.Run run.Write)) answer finished = ap (λ (a : Result ℕ RunCause). count_by run_refused before a) (sym finished.0)
-  refused-finished (Err (net.Run run.NoMemory)) answer finished = ap (λ (a : Result ℕ RunCause). count_by run_refused before a) (sym finished.0)
+  -- Only a write that failed raised the count of the output's faults, and only a start that was refused that of these.
+  pub HasCounts-finished : (tasks : ℕ) (rejects : Option (List ℕ)) (told told_now : Option Holdings) (over : Result Ending NetFault) (answer : Result ℕ RunCause)
+      → CountsNetInput before now over → Finished tasks rejects over told told_now answer → HasCounts before now output starts over answer
+  HasCounts-finished tasks rejects told told_now (Ok ending) answer counts finished =
+      let P : Result ℕ RunCause → Type 0 = λ a. HasCounts before now output starts (Ok ending) a in
+      let rose : StaysOrRises before now = StaysOrRises-stop ending.stop before now counts in
+      elim finished [
+        | inl closed ↦ subst P (sym closed.0) (HasCounts-closing ending ending.stop ending.report.rejected counts)
+        | inr other ↦ elim other [
+          | inl failed ↦ subst P (sym failed.is) (rose, refl, refl)
+          | inr short ↦ subst P (sym short.0) (rose, refl, refl)
+        ]
+      ]
+  HasCounts-finished tasks rejects told told_now (Err net.Refused) answer counts finished =
+      subst (HasCounts before now output starts (Err net.Refused)) (sym finished.0) (counts, refl, refl)
+  HasCounts-finished tasks rejects told told_now (Err (net.Run run.Tasks)) answer counts finished =
+      subst (HasCounts before now output starts (Err (net.Run run.Tasks))) (sym finished.0) (counts, refl, refl)
+  HasCounts-finished tasks rejects told told_now (Err (net.Run run.Write)) answer counts finished =
+      subst (HasCounts before now output starts (Err (net.Run run.Write))) (sym finished.0) (counts, refl, refl)
+  HasCounts-finished tasks rejects told told_now (Err (net.Run run.NoMemory)) answer counts finished =
+      subst (HasCounts before now output starts (Err (net.Run run.NoMemory))) (sym finished.0) (counts, refl, refl)

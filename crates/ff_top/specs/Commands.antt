@@ -4,20 +4,23 @@ use Rattle.ff_net.specs.Meaning.{Fine}
 use Rattle.ff_net.specs.Tree.{Tree}
 use Rattle.ff_net.specs.Versions.{limit_by, seen_by}
 use Rattle.ff_ops.specs.Operation.{OpState, op_node}
-use Rattle.ff_top.specs.Checking.{Printed}
 use Rattle.ff_top.specs.Outside.{Outside}
+use Rattle.ff_top.specs.Printing.{Printed}
 use Rattle.ff_top.specs.Running.{Ran, by_threads, run_job}
 use Rattle.ff_top.specs.Texts.{version}
 use Rattle.ff_top.specs.declared.fault.Fault.{Fault}
 use Rattle.ff_top.specs.declared.fault.Fault.TheVariants as fault
+use Rattle.ff_top.specs.declared.print.Form.{Form}
+use Rattle.ff_top.specs.declared.print.Form.TheVariants as form
 use Rattle.ff_words.specs.declared.command.Command.{Command}
-use Rattle.ff_words.specs.declared.command.Command.TheVariants.{Run, Check}
+use Rattle.ff_words.specs.declared.command.Command.TheVariants.{Run, Check, Plan}
 use Rattle.ff_words.specs.declared.command.Given.{Given}
 
 -- the text or file of a command that is built
 abbrev pub given_to : Command → Option Given
 given_to (Run given cap queue tasks one rejects) = Some given
 given_to (Check given) = Some given
+given_to (Plan given) = Some given
 given_to _ = None
 
 -- `run` answers as the run of the network ends
@@ -29,20 +32,21 @@ RunDone tasks one rejects t before now (Err (fault.Run cause)) =
     Ran (run_job t tasks rejects) (by_threads one t) rejects before now (Err cause)
 RunDone tasks one rejects t before now (Err _) = ⊥
 
--- `check` answers as the print of the network ends
-abbrev pub CheckDone : Tree OpState → Outside → Outside → Result ℕ Fault → Type 0
-CheckDone t before now (Ok n) = Printed t before now (Ok n)
-CheckDone t before now (Err (fault.Check cause)) = Printed t before now (Err cause)
-CheckDone t before now (Err _) = ⊥
+-- `check` and `plan` answer as the print of the network in this form ends
+abbrev pub PrintDone : Form → Tree OpState → Outside → Outside → Result ℕ Fault → Type 0
+PrintDone form t before now (Ok n) = Printed form t before now (Ok n)
+PrintDone form t before now (Err (fault.Print cause)) = Printed form t before now (Err cause)
+PrintDone form t before now (Err _) = ⊥
 
 -- what a command does with the network that it is given
 abbrev pub DoneWith : Command → Tree OpState → Outside → Outside → Result ℕ Fault → Type 0
 DoneWith (Run given cap queue tasks one rejects) t before now answer =
     RunDone tasks one rejects t before now answer
-DoneWith (Check given) t before now answer = CheckDone t before now answer
+DoneWith (Check given) t before now answer = PrintDone form.Network t before now answer
+DoneWith (Plan given) t before now answer = PrintDone form.Plan t before now answer
 DoneWith _ t before now answer = ⊥
 
--- the input of a run is known, passes no limit, and gives no wrap more tasks than it may have; a check reads none
+-- the input of a run is known, passes no limit, and gives no wrap more tasks than it may have; what prints a network reads none
 abbrev pub IsInLimits : Command → Tree OpState → Option (List ℕ) → Type 0
 IsInLimits (Run given cap queue tasks one rejects) t left =
     IsSomeAnd left (λ bytes.

@@ -2,14 +2,14 @@
 use Rattle.std.specs.Prelude.{◌≡◌, ℕ, ◌⊎◌, List, Option, None, Some, option_and_then, IsSome, IsSomeAnd, Result, Ok, Err}
 use Rattle.ff_net.specs.Tree.{Tree}
 use Rattle.ff_ops.specs.Operation.{OpState}
-use Rattle.ff_top.specs.Checking.{check_output}
+use Rattle.ff_top.specs.Printing.{print_output}
 use Rattle.ff_top.specs.Commands.{DoneWith, given_to, IsInLimits, IsBeyond}
 use Rattle.ff_top.specs.Messages.{said, status_of, Tells}
 use Rattle.ff_top.specs.Outside.{Outside, World, IsUntouched, IsQuiet}
 use Rattle.ff_top.specs.Running.{run_files, run_output, run_refused, RunInput}
 use Rattle.ff_top.specs.Texts.{IsKnown, IsGiven, IsGivenFault, IsSpelled, KeepsRules, given_files}
 use Rattle.ff_top.specs.declared.fault.Fault.{Fault}
-use Rattle.ff_top.specs.declared.fault.Fault.TheVariants.{Words, NotBuilt, Given, Run, Check}
+use Rattle.ff_top.specs.declared.fault.Fault.TheVariants.{Words, NotBuilt, Given, Run, Print}
 use Rattle.ff_words.specs.Words.{command}
 use Rattle.ff_words.specs.declared.command.Command.{Command}
 use Rattle.ff_words.specs.declared.command.CommandFault.{CommandFault}
@@ -49,7 +49,7 @@ Comes words before now (Err (Given fault)) =
     IsSomeAnd (description words) (λ given. IsGivenFault before.told given fault)
     × IsUntouched before now
 Comes words before now (Err (Run fault)) = Did words before now (Err (Run fault))
-Comes words before now (Err (Check fault)) = Did words before now (Err (Check fault))
+Comes words before now (Err (Print fault)) = Did words before now (Err (Print fault))
 
 -- the counts of the files' and the output's faults and of refused starts after this answer: one more of what failed, and else
 -- the same
@@ -60,7 +60,7 @@ files_count n _ = n
 
 abbrev pub output_count : {A : Type 0} → ℕ → Result A Fault → ℕ
 output_count n (Err (Run fault)) = run_output n fault
-output_count n (Err (Check fault)) = check_output n fault
+output_count n (Err (Print fault)) = print_output n fault
 output_count n _ = n
 
 abbrev pub refused_count : {A : Type 0} → ℕ → Result A Fault → ℕ

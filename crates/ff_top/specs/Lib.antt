@@ -1,7 +1,7 @@
 pub mod Outside
 pub mod Texts
 pub mod Running
-pub mod Checking
+pub mod Printing
 pub mod Commands
 pub mod Messages
 pub mod Endings

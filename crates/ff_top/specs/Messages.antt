@@ -11,13 +11,13 @@ use Rattle.ff_rec.specs.declared.fault.LineFault.TheVariants.{TooLong, TooManyFi
 use Rattle.ff_text.specs.declared.fault.TextKind.{TextKind}
 use Rattle.ff_text.specs.declared.fault.TextKind.TheVariants.{BadByte, BadToken, UnknownName, Range, Deep, End, Large, TakenName}
 use Rattle.ff_top.specs.declared.fault.Fault.{Fault}
-use Rattle.ff_top.specs.declared.fault.Fault.TheVariants.{Words, NotBuilt, Given, Run, Check}
+use Rattle.ff_top.specs.declared.fault.Fault.TheVariants.{Words, NotBuilt, Given, Run, Print}
 use Rattle.ff_top.specs.declared.given_fault.GivenFault.{GivenFault}
 use Rattle.ff_top.specs.declared.given_fault.GivenFault.TheVariants as given
 use Rattle.ff_top.specs.declared.run_cause.RunCause.{RunCause}
 use Rattle.ff_top.specs.declared.run_cause.RunCause.TheVariants as run
-use Rattle.ff_top.specs.declared.check.CheckFault.{CheckFault}
-use Rattle.ff_top.specs.declared.check.CheckFault.TheVariants as check
+use Rattle.ff_top.specs.declared.print.PrintFault.{PrintFault}
+use Rattle.ff_top.specs.declared.print.PrintFault.TheVariants as print
 use Rattle.ff_words.specs.declared.command.CommandFault.{CommandFault}
 use Rattle.ff_words.specs.declared.command.CommandFault.TheVariants as words
 
@@ -86,10 +86,10 @@ run_message (run.Read rejected) = codes "ffrun: read fault\n"
 run_message (run.Line fault rejected) = line_message fault
 run_message run.NoMemory = memory_message
 
--- of `check`
-abbrev pub check_message : CheckFault → List ℕ
-check_message check.Write = write_message
-check_message check.NoMemory = memory_message
+-- of what prints a network
+abbrev pub print_message : PrintFault → List ℕ
+print_message print.Write = write_message
+print_message print.NoMemory = memory_message
 
 -- of any part
 abbrev pub message : Fault → List ℕ
@@ -97,7 +97,7 @@ message (Words fault) = words_message fault
 message NotBuilt = codes "ffrun: not built\n"
 message (Given fault) = given_message fault
 message (Run fault) = run_message fault
-message (Check fault) = check_message fault
+message (Print fault) = print_message fault
 
 -- the line that tells how many records were rejected, if any was
 abbrev pub rejected_line : ℕ → List ℕ
@@ -119,7 +119,7 @@ abbrev pub said : Result ℕ Fault → List ℕ
 said (Ok rejected) = rejected_line rejected
 said (Err fault) = message fault ++ rejected_line (rejected_by fault)
 
--- the status of each fault: of words, of the text that is given, of `run`, of `check`, and of any part
+-- the status of each fault: of words, of the text that is given, of `run`, of a print, and of any part
 abbrev pub words_status : CommandFault → ℕ
 words_status words.Usage = 1
 words_status words.NoMemory = 6
@@ -138,16 +138,16 @@ run_status (run.Line fault rejected) = 3
 run_status run.NoMemory = 6
 run_status _ = 4
 
-abbrev pub check_status : CheckFault → ℕ
-check_status check.Write = 4
-check_status check.NoMemory = 6
+abbrev pub print_status : PrintFault → ℕ
+print_status print.Write = 4
+print_status print.NoMemory = 6
 
 abbrev pub fault_status : Fault → ℕ
 fault_status (Words fault) = words_status fault
 fault_status NotBuilt = 2
 fault_status (Given fault) = given_status fault
 fault_status (Run fault) = run_status fault
-fault_status (Check fault) = check_status fault
+fault_status (Print fault) = print_status fault
 
 -- the status of a call
 abbrev pub status_of : Result ℕ Fault → ℕ

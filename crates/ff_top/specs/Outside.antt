@@ -3,7 +3,7 @@ use Rattle.std.specs.Prelude.{◌≡◌, ℕ, ◌⊎◌, Bool, List, Option, Res
 use Rattle.std.specs.Io.KnownBytes.{Keeps}
 use Rattle.ff_rec.specs.Counts.{more, Rose}
 use Rattle.ff_io.specs.Files.{Holdings, KeepsAll}
-use Rattle.ff_stream.specs.Streams.{Streams}
+use Rattle.ff_stream.specs.Streams.{Streams, streams}
 
 -- What the files hold, the bytes that are left to read and whether the last read told the end, the bytes that the output took,
 -- and for each of the three how often it failed. Of threads: how many starts were refused, how many were made, and how many
@@ -44,15 +44,7 @@ pub record World : Type 0 where
 
 -- the input and the output of a call
 abbrev pub streams_of : Outside → Outside → Streams
-streams_of before now = record {
-  left = before.left;
-  left_now = now.left;
-  ended = now.ended;
-  faults = before.input_faults;
-  faults_now = now.input_faults;
-  taken = before.taken;
-  taken_now = now.taken;
-}
+streams_of before now = streams (λ o. o.left) (λ o. o.ended) (λ o. o.input_faults) (λ o. o.taken) before now before now
 
 -- nothing was read, nothing written, and every name of the files holds what it held
 pub record IsUntouched (before now : Outside) : Type 0 where

@@ -9,12 +9,13 @@ use Rattle.ff_net.specs.declared.net.Version.TheVariants.{One}
 use Rattle.ff_ops.specs.Operation.{OpState, op_node}
 use Rattle.ff_text.specs.Cutting.{tokens}
 use Rattle.ff_text.specs.Faults.{text_of}
-use Rattle.ff_text.specs.Grammar.{IsNet}
+use Rattle.ff_text.specs.Grammar.{IsNet, most_forms}
 use Rattle.ff_text.specs.Printing.{tokens_of}
 use Rattle.ff_text.specs.Reading.{IsReadFault}
 use Rattle.ff_text.specs.declared.fault.ReadFault.TheVariants.{Text as TextFault}
 use Rattle.ff_text.specs.declared.fault.TextKind.{TextKind}
 use Rattle.ff_rec.specs.Counts.{more}
+use Rattle.ff_rec.specs.declared.limits.TheConstants.{LONGEST_TEXT}
 use Rattle.ff_top.specs.declared.given_fault.GivenFault.{GivenFault}
 use Rattle.ff_top.specs.declared.given_fault.GivenFault.TheVariants.{File, TooLong, BadText, BrokenRule, NoMemory}
 use Rattle.ff_words.specs.declared.command.Given.{Given}
@@ -31,14 +32,10 @@ IsKnown told (source.Text bytes) text = text ≡ bytes
 IsKnown None (source.File name) text = ⊥
 IsKnown (Some holds) (source.File name) text = holds name ≡ Some text
 
--- the most bytes of a text
-abbrev pub text_limit : ℕ
-text_limit = 65536
-
--- the tokens of a text spell a network of depth 16 at most, with its nodes before their first records
+-- the tokens of a text that isn't too long spell a network, with its nodes before their first records
 pub record IsSpelled (text : List ℕ) (t : Tree OpState) : Type 0 where
-  pub short : length text ≤ text_limit
-  pub net : IsNet t 15
+  pub short : length text ≤ LONGEST_TEXT
+  pub net : IsNet t most_forms
   pub spelled : tokens_of (tokens text) ≡ text_of t
 
 -- the version of the texts of today
@@ -64,7 +61,7 @@ Breaks t fault = first_fault op_node version t ≡ Some (fault.rule, fault.path)
 pub record IsLong (told : Option Holdings) (given : Given) : Type 0 where
   pub text : List ℕ
   pub is_text : IsText told given text
-  pub long : text_limit < length text
+  pub long : LONGEST_TEXT < length text
 
 -- the text that is given spells no network: this is its first fault
 pub record IsBadText (told : Option Holdings) (given : Given) (at : ℕ) (kind : TextKind) : Type 0 where
@@ -91,7 +88,7 @@ IsGivenFault told given NoMemory = Unit {0}
 -- when each fault of the bytes of a text comes
 abbrev pub IsSpelledFault : List ℕ → GivenFault → Type 0
 IsSpelledFault text (File name) = ⊥
-IsSpelledFault text TooLong = text_limit < length text
+IsSpelledFault text TooLong = LONGEST_TEXT < length text
 IsSpelledFault text (BadText at kind) = IsReadFault text (TextFault at kind)
 IsSpelledFault text (BrokenRule fault) = (t : Tree OpState) × IsSpelled text t × Breaks t fault
 IsSpelledFault text NoMemory = Unit {0}

@@ -1,14 +1,14 @@
 // From words to what they do.
 ghost use Rattle.std.specs.Prelude.{◌≡◌};
-ghost use Rattle.ff_top.specs.Commands.{CheckDone, RunDone};
+ghost use Rattle.ff_top.specs.Commands.{PrintDone, RunDone};
 ghost use Rattle.ff_top.specs.Endings.{Comes, Counts};
 ghost use Rattle.ff_top.specs.Working.{Handled, Worked};
 ghost use Rattle.ff_words.specs.Parsed.{texts};
 
-use crate::check::print;
 use crate::devices::{Devices, Seen};
 use crate::fault::Fault;
 use crate::given::read_given;
+use crate::print::{Form, print};
 use crate::run::{Order, run};
 use ff_engine::NetJob;
 use ff_io::{Files, Sink, Source};
@@ -78,7 +78,8 @@ fn work<
             };
             run_given(rt, alloc, given, order, devices)
         }
-        Command::Check { given } => check_given(alloc, given, devices),
+        Command::Check { given } => print_given(alloc, given, Form::Network, devices),
+        Command::Plan { given } => print_given(alloc, given, Form::Plan, devices),
         _ => Err(Fault::NotBuilt),
     }
 }
@@ -114,22 +115,23 @@ fn run_given<
     }
 }
 
-// Prints the network that is given.
-fn check_given<F: Files, I: Source, O: Sink, E: Sink, S: Refusals>(
+// Prints the network that is given in this form.
+fn print_given<F: Files, I: Source, O: Sink, E: Sink, S: Refusals>(
     alloc: Global,
     given: Given,
+    form: Form,
     devices: &mut Devices<F, I, O, E, S>,
 ) -> Result<u64, Fault>
     ensures handled { let seen = ⟦<Devices<F, I, O, E, S> as Seen>⟧.outside in
-        Handled given CheckDone (seen devices.old) (seen devices.new) result }
+        Handled given (PrintDone form) (seen devices.old) (seen devices.new) result }
     ensures counts { let seen = ⟦<Devices<F, I, O, E, S> as Seen>⟧.outside in
         Counts (seen devices.old) (seen devices.new) result }
     ensures err { devices.new.err ≡ devices.old.err }
 {
     match read_given(alloc, &mut devices.files, given) {
-        Ok(checked) => match print(alloc, &checked, &mut devices.out) {
+        Ok(checked) => match print(alloc, &checked, form, &mut devices.out) {
             Ok(rejected) => Ok(rejected),
-            Err(fault) => Err(Fault::Check(fault)),
+            Err(fault) => Err(Fault::Print(fault)),
         },
         Err(fault) => Err(Fault::Given(fault)),
     }

@@ -2,9 +2,9 @@
 ghost use Rattle.std.specs.Prelude.{◌≡◌};
 ghost use Rattle.ff_top.specs.Messages.{fault_status, message, rejected_by, words_message, words_status, Writes};
 
-use crate::check::CheckFault;
 use crate::given_fault::GivenFault;
 use crate::pieces::{write_memory, write_piece};
+use crate::print::PrintFault;
 use crate::run_cause::RunCause;
 use ff_io::{Failed, Sink};
 use ff_words::CommandFault;
@@ -20,8 +20,8 @@ pub enum Fault {
     Given(GivenFault),
     /// The command `run`.
     Run(RunCause),
-    /// The command `check`.
-    Check(CheckFault),
+    /// A command that prints a network.
+    Print(PrintFault),
 }
 
 impl Fault {
@@ -34,7 +34,7 @@ impl Fault {
             Fault::NotBuilt => 2,
             Fault::Given(fault) => fault.status(),
             Fault::Run(cause) => cause.status(),
-            Fault::Check(fault) => fault.status(),
+            Fault::Print(fault) => fault.status(),
         }
     }
 
@@ -58,7 +58,7 @@ impl Fault {
             Fault::NotBuilt => write_piece(sink, b"ffrun: not built\n"),
             Fault::Given(fault) => fault.write(sink),
             Fault::Run(cause) => cause.write(sink),
-            Fault::Check(fault) => fault.write(sink),
+            Fault::Print(fault) => fault.write(sink),
         }
     }
 }

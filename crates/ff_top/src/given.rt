@@ -9,7 +9,8 @@ use crate::given_fault::GivenFault;
 use ff_io::{FileFault, Files};
 use ff_net::{Checked, RuleFault, check};
 use ff_ops::Op;
-use ff_text::{Described, MOST_BYTES, ReadFault, read_net};
+use ff_rec::LONGEST_TEXT;
+use ff_text::{Described, ReadFault, read_net};
 use ff_words::Given;
 use std::alloc::Global;
 
@@ -27,7 +28,7 @@ pub fn read_given<F: Files>(
 {
     match given {
         Given::Text(text) => read_text(alloc, text.as_str().as_bytes()),
-        Given::File(name) => match files.load(name.as_str(), MOST_BYTES) {
+        Given::File(name) => match files.load(name.as_str(), LONGEST_TEXT) {
             Ok(text) => read_text(alloc, &text),
             Err(FileFault::Failed) => Err(GivenFault::File(name)),
             Err(FileFault::TooLong) => Err(GivenFault::TooLong),

@@ -2,7 +2,6 @@
 //! What it does stands in a file of its own here, as `run.rt`, and so do its faults with their messages, as `run_cause.rt`.
 #![tactic(auto)]
 
-mod check;
 mod devices;
 mod execute;
 mod fault;
@@ -11,6 +10,7 @@ mod given;
 mod given_fault;
 mod pieces;
 mod place;
+mod print;
 mod rejects;
 mod run;
 mod run_cause;

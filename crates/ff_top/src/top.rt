@@ -1,7 +1,7 @@
 // The call that `main` makes.
 ghost use Rattle.std.specs.Prelude.{◌≡◌, ◌⊎◌, ℕ, [], ◌∷◌, None, Ok, Err, Contains};
 ghost use Rattle.ff_top.specs.Endings.{Did, Ended, IsComplete};
-ghost use Rattle.ff_top.specs.Messages.{memory_message, Tells};
+ghost use Rattle.ff_top.specs.Messages.{memory_message, status_of, Tells};
 ghost use Rattle.ff_words.specs.Parsed.{texts};
 ghost use Rattle.ff_words.specs.Words.{command};
 
@@ -60,6 +60,13 @@ pub fn ffrun<
     let room = room_for(alloc, words);
     let ending = execute(rt, alloc, words, devices);
     tell(&ending, room, &mut devices.err);
+    status_of(&ending)
+}
+
+// The status of a call that ended so.
+fn status_of(ending: &Result<u64, Fault>) -> u8
+    ensures { result ≡ status_of ending.now }
+{
     match ending {
         Ok(_) => 0,
         Err(fault) => fault.status(),

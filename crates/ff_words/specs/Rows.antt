@@ -3,6 +3,8 @@ use Rattle.std.specs.Prelude.{ℕ, Bool, false, if◌then◌else◌, List, Optio
 use Rattle.std.specs.Option.{option_map_or}
 use Rattle.std.specs.Str.{bytes_eq}
 use Rattle.clap.specs.Words.{Row, first_of}
+use Rattle.ff_plan.specs.declared.kind.Queue.{Queue}
+use Rattle.ff_plan.specs.declared.kind.Queue.TheVariants.{Ring, Chain}
 use Rattle.ff_words.specs.Numbers.{number_in}
 use Rattle.ff_words.specs.declared.command.Command.{Command}
 use Rattle.ff_words.specs.declared.command.Command.TheVariants.{Run, Check, Plan, Mdf, Dc, Soak}
@@ -10,8 +12,6 @@ use Rattle.ff_words.specs.declared.command.DcRule.{DcRule}
 use Rattle.ff_words.specs.declared.command.DcRule.TheVariants.{Fib, Sum, MaxSub, FirstMin, Bracket}
 use Rattle.ff_words.specs.declared.command.Given.{Given}
 use Rattle.ff_words.specs.declared.command.Given.TheVariants as given
-use Rattle.ff_words.specs.declared.command.Queue.{Queue}
-use Rattle.ff_words.specs.declared.command.Queue.TheVariants.{Ring, Chain}
 
 -- the number from `least` to `most` in an argument
 abbrev pub number_of : List ℕ → ℕ → ℕ → List Row → Option ℕ

@@ -1,5 +1,6 @@
 // What words ask for.
 use crate::Text;
+use ff_plan::Queue;
 use std::alloc::AllocError;
 
 /// Why words gave no command.
@@ -8,15 +9,6 @@ pub enum CommandFault {
     /// The words aren't a command.
     Usage,
     NoMemory,
-}
-
-/// How the channels between threads are made.
-#[derive(Clone, Copy, Debug, PartialEq, Eq, Hash)]
-pub enum Queue {
-    /// Rings of a fixed size.
-    Ring,
-    /// Chains of rings, which grow.
-    Chain,
 }
 
 /// What divide and conquer works out.

@@ -11,7 +11,8 @@ mod text;
 mod values;
 mod words;
 
-pub use command::{Command, CommandFault, DcRule, Given, Queue};
+pub use command::{Command, CommandFault, DcRule, Given};
+pub use ff_plan::Queue;
 pub use text::Text;
 pub use words::read_command;
 

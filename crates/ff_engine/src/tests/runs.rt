@@ -14,16 +14,16 @@ use std::test::Fail;
 use std::thread;
 
 // The sizes of rings.
-const CAPS: [u32; 5] = [1, 2, 64, 512, 4096];
+pub const CAPS: [u32; 5] = [1, 2, 64, 512, 4096];
 
 // How a run ends.
 #[derive(Clone, Copy, Debug, PartialEq, Eq)]
-enum Kind {
+pub enum Kind {
     Ended(Stop),
     Broken(NetFault),
 }
 
-const DONE: Kind = Kind::Ended(Stop::End);
+pub const DONE: Kind = Kind::Ended(Stop::End);
 
 const READ: Kind = Kind::Ended(Stop::Read);
 
@@ -42,14 +42,14 @@ struct Case<'a> {
 }
 
 // A pipe of a gate, a comb of two and a pipe of two: four units.
-fn gates(alloc: Global) -> Result<Net<Gate>, Fail> {
+pub fn gates(alloc: Global) -> Result<Net<Gate>, Fail> {
     let comb = vec![in alloc; Net::Leaf(Gate), Net::Leaf(Gate)]?;
     let pipe = vec![in alloc; Net::Leaf(Gate), Net::Leaf(Gate)]?;
     Ok(Net::Pipe(vec![in alloc; Net::Leaf(Gate), Net::Comb(comb), Net::Pipe(pipe)]?))
 }
 
 // The network, which keeps all rules.
-fn checked<N: ff_node::Node>(net: Net<N>) -> Result<Checked<N>, Fail> {
+pub fn checked<N: ff_node::Node>(net: Net<N>) -> Result<Checked<N>, Fail> {
     match check(net, Version::One) {
         Ok(checked) => Ok(checked),
         Err(_) => Err(Fail::from("the network was refused")),
@@ -57,7 +57,7 @@ fn checked<N: ff_node::Node>(net: Net<N>) -> Result<Checked<N>, Fail> {
 }
 
 // How a run ends, how many records were rejected, and how many of them were kept.
-fn summary(answer: Result<Ending, NetFault>) -> (Kind, u64, usize) {
+pub fn summary(answer: Result<Ending, NetFault>) -> (Kind, u64, usize) {
     match answer {
         Ok(Ending { stop, report }) => (Kind::Ended(stop), report.rejected, report.kept.len()),
         Err(fault) => (Kind::Broken(fault), 0, 0),

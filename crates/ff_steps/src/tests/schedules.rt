@@ -1,31 +1,33 @@
 // Many random schedules of one pipeline, whose middle node ends by itself.
 use super::narrow::{Narrow, narrow_of};
+use super::records;
 use crate::{Core, run_pipeline, run_schedule};
-use ff_node::Records;
-use ff_rec::{Field, Record, print_record};
+use ff_rec::print_record;
 use ff_unit::Stage;
 use std::alloc::Global;
 use std::process::Abort;
 use std::test::Fail;
 
 // By hand: the first node rejects "bad" and "worse", the middle one ends after "a" and "b", and the last one sends both.
-const INPUT: [&[u8]; 6] = [b"a", b"bad", b"b", b"c", b"worse", b"d"];
+const INPUT: &str = "a bad b c worse d";
 
 const OUTPUT: &[u8] = b"a\nb\n";
 
 const REJECTS: &[u8] = b"bad\nworse\n";
 
-fn pipeline(rt: &impl Abort, alloc: Global, cap: u32) -> Result<Core<Stage<Narrow>>, Fail> {
+fn nodes(alloc: Global) -> Result<Vec<Narrow>, Fail> {
     let mut nodes = Vec::new(alloc);
     nodes.push(narrow_of(100))?;
     nodes.push(narrow_of(2))?;
     nodes.push(narrow_of(100))?;
-    let mut input = Records::new(alloc);
-    for bytes in INPUT {
-        let field = Field::new(alloc, bytes)?;
-        input.push(Record::one(alloc, &field)?)?;
-    }
+    Ok(nodes)
+}
+
+fn pipeline(rt: &impl Abort, alloc: Global, cap: u32) -> Result<Core<Stage<Narrow>>, Fail> {
+    let nodes = nodes(alloc)?;
+    assert!(rt; nodes.len() == 3);
     assert!(rt; 1 <= cap && cap <= 4096);
+    let input = records(alloc, INPUT)?;
     Ok(Core::line(alloc, nodes, cap, true, input)?)
 }
 
@@ -98,24 +100,29 @@ fn sweeps(core: &mut Core<Stage<Narrow>>) -> bool {
     false
 }
 
+// What is there once all have ended.
+fn check_answer(
+    rt: &impl Abort,
+    alloc: Global,
+    core: &mut Core<Stage<Narrow>>,
+    cap: u32,
+    seed: u32,
+) -> Result<(), Fail> {
+    assert!(rt; !core.short_of_memory(), "capacity {cap}, seed {seed}");
+    let output = output(alloc, core)?;
+    assert_eq!(rt; output.as_slice(), OUTPUT, "capacity {cap}, seed {seed}");
+    let rejects = rejects(alloc, core)?;
+    assert_eq!(rt; rejects.as_slice(), REJECTS, "capacity {cap}, seed {seed}");
+    let all_taken = core.rejected() == 2 && core.take_reject().is_none();
+    assert!(rt; all_taken, "capacity {cap}, seed {seed}");
+    Ok(())
+}
+
 fn runs_to_the_answer(rt: &impl Abort, alloc: Global, cap: u32, seed: u32) -> Result<(), Fail> {
     let mut core = pipeline(rt, alloc, cap)?;
     run_tens(rt, alloc, &mut core, cap, seed)?;
     assert!(rt; sweeps(&mut core), "capacity {cap}, seed {seed}");
-    assert!(rt; !core.short_of_memory(), "capacity {cap}, seed {seed}");
-    assert_eq!(rt;
-        output(alloc, &core)?.as_slice(),
-        OUTPUT,
-        "capacity {cap}, seed {seed}"
-    );
-    assert_eq!(rt; core.rejected(), 2, "capacity {cap}, seed {seed}");
-    assert_eq!(rt;
-        rejects(alloc, &mut core)?.as_slice(),
-        REJECTS,
-        "capacity {cap}, seed {seed}"
-    );
-    assert!(rt; core.take_reject().is_none(), "capacity {cap}, seed {seed}");
-    Ok(())
+    check_answer(rt, alloc, &mut core, cap, seed)
 }
 
 #[test]

@@ -63,8 +63,8 @@ fn a_unit_for_each_leaf_and_each_comb(rt: HostRuntime) -> Result<(), Fail> {
     let alloc = rt.alloc();
     let checked = network(alloc)?;
     assert!(rt; !checked.has_copies());
-    assert!(rt; unit_passes(&rt, alloc, &checked, 0, record(&rt, b"a")?)?);
-    assert!(rt; !unit_passes(&rt, alloc, &checked, 1, record(&rt, b"a")?)?);
-    assert!(rt; unit_passes(&rt, alloc, &checked, 2, record(&rt, b"a")?)?);
+    assert!(rt; unit_passes(&rt, alloc, &checked, 0, record(alloc, b"a")?)?);
+    assert!(rt; !unit_passes(&rt, alloc, &checked, 1, record(alloc, b"a")?)?);
+    assert!(rt; unit_passes(&rt, alloc, &checked, 2, record(alloc, b"a")?)?);
     Ok(())
 }

@@ -25,6 +25,7 @@ run 'add 1 1' | x\n0\n1\n2\n | 4 | 1\n2 | ffrun: write fault\n
 run --tasks 5 'wrap 2 (halve 1) if 1 > 1' | x\n2\n1 | 4 | 1\n1 | ffrun: write fault\n
 check id | 1 | 0 | id\n |
 check 'farm 2 rr(id)' | 1 | 4 | far | ffrun: write fault\n
+plan id | 1 | 4 | 0 s | ffrun: write fault\n
 // Nothing is written, so that it doesn't show.
 run --tasks 1 'wrap 2 (halve 1) if 1 > 1' | x\n2\n1 | 3 |  | ffrun: more than 1 tasks\n
 "#;
@@ -33,7 +34,7 @@ run --tasks 1 'wrap 2 (halve 1) if 1 > 1' | x\n2\n1 | 3 |  | ffrun: more than 1 
 const FIVE_BYTES_TOLD: &str = r#"
 run 'add 1 1' | 1\nx | 0 | 2\n | ffrun
 walk id |  | 1 |  | ffrun
-plan id |  | 2 |  | ffrun
+soak 3 |  | 2 |  | ffrun
 check 'id id' |  | 2 |  | ffrun
 run 'farm 0 rr (id)' |  | 2 |  | ffrun
 "#;

@@ -2,6 +2,7 @@
 use super::{ANY_ORDER, Host, SOUND, Setting, check_case, check_table};
 use crate::tests::cases::{Case, case_of, is_call};
 use crate::tests::flowing::check_left;
+use crate::tests::networks::ORDERED;
 use std::alloc::Global;
 use std::test::Fail;
 
@@ -45,14 +46,15 @@ check 'pipe(id, id)' |  | 0 | pipe(id, id)\n |
 #[test]
 fn rings_of_each_size(rt: HostRuntime) -> Result<(), Fail> {
     for verb in SIZES {
-        check_lines(&rt, rt.alloc(), verb)?;
+        check_lines(&rt, rt.alloc(), LINES, verb)?;
+        check_lines(&rt, rt.alloc(), ORDERED, verb)?;
     }
     Ok(())
 }
 
-// Makes the calls of the lines with these first words, and compares.
-fn check_lines<R: Host>(rt: &R, alloc: Global, verb: &str) -> Result<(), Fail> {
-    for line in LINES.lines() {
+// Makes the calls of a table with these first words, and compares.
+fn check_lines<R: Host>(rt: &R, alloc: Global, table: &str, verb: &str) -> Result<(), Fail> {
+    for line in table.lines() {
         if is_call(line) {
             let case = case_of(line)?;
             check_case(rt, alloc, Case { verb, ..case }, SOUND)?;

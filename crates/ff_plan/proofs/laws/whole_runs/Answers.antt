@@ -20,4 +20,4 @@ returns g c =
     let t = tree_of c.args.checked.now.net in
     let is_good = good b c.args.checked.now.version whole [] t (kept_whole b c.args.checked.now.version t c.args.checked.now.kept) in
     λ m. whole_runs b m t (λ edge. law_net b (are_nodes b keeps law) m (whole_view b m edge)
-        (λ n w p is. law_wrap_whole b keeps law (comb-is_pipeline b) m n w p is.2 is.3 edge) t is_good)
+    (λ n w p is. law_wrap_whole b keeps law (comb-is_pipeline b) m n w p is.2 is.3 edge) t is_good)

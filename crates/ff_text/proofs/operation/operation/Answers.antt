@@ -1,10 +1,10 @@
 -- What is made of the row and the arguments has them.
-use Rattle.std.proofs.Common.{◌≡◌, ◌∷◌, ◌++◌, map, List, sym, ap, subst, ◌∙◌}
+use Rattle.std.proofs.Common.{◌∷◌, ◌++◌, List, sym, ap, subst, ◌∙◌}
 use Rattle.ff_ops.specs.Arguments.{AllFit}
 use Rattle.ff_ops.specs.Operation.{OpState}
 use Rattle.ff_ops.specs.Table.{name_of}
 use Rattle.ff_ops.specs.declared.arg.ArgKind.{ArgKind}
-use Rattle.ff_text.specs.OperationTokens.{argument_token, spelling}
+use Rattle.ff_text.specs.OperationTokens.{spelling}
 use Rattle.ff_text.specs.Printing.{tokens_of}
 use Rattle.ff_text.specs.Tokens.{Word}
 use Rattle.ff_text.proofs.OpParts.{IsNew-operation}

@@ -3,34 +3,27 @@ use Rattle.std.proofs.Common.{inr}
 use Rattle.std.specs.Prelude.{Ok, Err}
 use Rattle.ff_net.specs.Tree.{tree_of}
 use Rattle.ff_top.proofs.Executed.{Ran-early}
-use Rattle.ff_top.specs.Outside.{outside_of}
 use Rattle.ff_top.specs.Running.{by_threads, run_job}
 use Rattle.ff_top.proofs.execute.run_given.Goals as goal
 
 pub returns-in-Ok-run-clause-handled : goal.returns-in-Ok-run-clause-handled
 returns-in-Ok-run-clause-handled g c =
-    let seen = outside_of g.F.Files.told g.F.Files.faults g.I.Source.left g.I.Source.ended g.I.Source.faults g.O.Sink.taken g.O.Sink.faults g.S.Refusals.refused g.S.Refusals.starts g.S.Refusals.worked in
-    let before = seen c.args.devices.now.files c.args.devices.now.input c.args.devices.now.out c.args.devices.now.spawner in
-    let now = seen c.run.new.devices.files c.run.new.devices.input c.run.new.devices.out c.run.new.devices.spawner in
     let mid = c.read_given.new.files in
     let t = tree_of c.in-Ok.checked.net in
     inr (record {
       net = t;
       spelled = c.in-Ok.ensures.ok;
-      done = Ran-early (run_job t c.args.order.tasks c.args.order.rejects) (by_threads c.args.order.one t) c.args.order.rejects before now (g.F.Files.told mid) (g.F.Files.faults mid) c.in-Ok.ensures.keeps
+      done = Ran-early (run_job t c.args.order.tasks c.args.order.rejects) (by_threads c.args.order.one t) c.args.order.rejects _ _ (g.F.Files.told mid) (g.F.Files.faults mid) c.in-Ok.ensures.keeps
           (Ok c.in-Ok-run.rejected) c.in-Ok-run.ensures.ran;
     })
 
 pub returns-in-Ok-clause-handled : goal.returns-in-Ok-clause-handled
 returns-in-Ok-clause-handled g c =
-    let seen = outside_of g.F.Files.told g.F.Files.faults g.I.Source.left g.I.Source.ended g.I.Source.faults g.O.Sink.taken g.O.Sink.faults g.S.Refusals.refused g.S.Refusals.starts g.S.Refusals.worked in
-    let before = seen c.args.devices.now.files c.args.devices.now.input c.args.devices.now.out c.args.devices.now.spawner in
-    let now = seen c.run.new.devices.files c.run.new.devices.input c.run.new.devices.out c.run.new.devices.spawner in
     let mid = c.read_given.new.files in
     let t = tree_of c.in-Ok.checked.net in
     inr (record {
       net = t;
       spelled = c.in-Ok.ensures.ok;
-      done = Ran-early (run_job t c.args.order.tasks c.args.order.rejects) (by_threads c.args.order.one t) c.args.order.rejects before now (g.F.Files.told mid) (g.F.Files.faults mid) c.in-Ok.ensures.keeps
+      done = Ran-early (run_job t c.args.order.tasks c.args.order.rejects) (by_threads c.args.order.one t) c.args.order.rejects _ _ (g.F.Files.told mid) (g.F.Files.faults mid) c.in-Ok.ensures.keeps
           (Err c.in-Err-run.cause) c.in-Err-run.ensures.ran;
     })

@@ -21,9 +21,20 @@ pub returns-in-Check-clause-worked : goal.returns-in-Check-clause-worked
 returns-in-Check-clause-worked g c =
     let seen = outside_of g.F.Files.told g.F.Files.faults g.I.Source.left g.I.Source.ended g.I.Source.faults g.O.Sink.taken g.O.Sink.faults g.S.Refusals.refused g.S.Refusals.starts g.S.Refusals.worked in
     let before = seen c.args.devices.now.files c.args.devices.now.input c.args.devices.now.out c.args.devices.now.spawner in
-    let now = seen c.check_given.new.devices.files c.check_given.new.devices.input c.check_given.new.devices.out c.check_given.new.devices.spawner in
+    let now = seen c.print_given.new.devices.files c.print_given.new.devices.input c.print_given.new.devices.out c.print_given.new.devices.spawner in
     inr (record {
       given = c.in-Check.given;
       is = ap given_to c.in-Check.is;
-      handled = subst (λ (job : Command). Handled c.in-Check.given (DoneWith job) before now c.check_given.result) (sym c.in-Check.is) c.check_given.ensures.handled;
+      handled = subst (λ (job : Command). Handled c.in-Check.given (DoneWith job) before now c.print_given.result) (sym c.in-Check.is) c.print_given.ensures.handled;
+    })
+
+pub returns-in-Plan-clause-worked : goal.returns-in-Plan-clause-worked
+returns-in-Plan-clause-worked g c =
+    let seen = outside_of g.F.Files.told g.F.Files.faults g.I.Source.left g.I.Source.ended g.I.Source.faults g.O.Sink.taken g.O.Sink.faults g.S.Refusals.refused g.S.Refusals.starts g.S.Refusals.worked in
+    let before = seen c.args.devices.now.files c.args.devices.now.input c.args.devices.now.out c.args.devices.now.spawner in
+    let now = seen c.print_given.new.devices.files c.print_given.new.devices.input c.print_given.new.devices.out c.print_given.new.devices.spawner in
+    inr (record {
+      given = c.in-Plan.given;
+      is = ap given_to c.in-Plan.is;
+      handled = subst (λ (job : Command). Handled c.in-Plan.given (DoneWith job) before now c.print_given.result) (sym c.in-Plan.is) c.print_given.ensures.handled;
     })

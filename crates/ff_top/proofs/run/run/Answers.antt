@@ -2,7 +2,7 @@
 use Rattle.std.proofs.Common.{◌≡◌, subst, ◌∙◌}
 use Rattle.ff_net.specs.Tree.{tree_of}
 use Rattle.ff_top.proofs.Answering.{Answered-files}
-use Rattle.ff_top.proofs.Finished.{Ran-finished, CountsRun-finished, output-finished, refused-finished}
+use Rattle.ff_top.proofs.Finished.{Ran-finished, HasCounts-finished}
 use Rattle.ff_top.specs.Finishing.{Finished}
 use Rattle.ff_top.specs.Outside.{count_by, outside_of}
 use Rattle.ff_top.specs.Running.{by_threads, run_files, run_job}
@@ -29,18 +29,12 @@ returns-clause-counts g c =
     let a = c.answer-answer in
     let b = a.new.devices in
     let d = c.args.devices.now in
-    let tasks = c.args.order.tasks in
-    let rejects = c.args.order.rejects in
-    let told = g.F.Files.told b.files in
-    let told_now = g.F.Files.told c.finish.new.files in
+    let has = HasCounts-finished (g.I.Source.faults d.input) (g.I.Source.faults b.input) (g.O.Sink.faults d.out) (g.S.Refusals.refused d.spawner)
+    c.args.order.tasks c.args.order.rejects (g.F.Files.told b.files) (g.F.Files.told c.finish.new.files)
+    a.result c.finish.result a.ensures.input_faults c.finish.ensures.ends in
     record {
       files = subst (λ files. g.F.Files.faults c.finish.new.files ≡ count_by run_files (g.F.Files.faults files) c.finish.result) a.ensures.files c.finish.ensures.counts;
-      input = CountsRun-finished tasks rejects told told_now (g.I.Source.faults d.input) (g.I.Source.faults b.input)
-          a.result c.finish.result a.ensures.input_faults c.finish.ensures.ends;
-      output = a.ensures.output_faults
-          ∙ output-finished tasks rejects told told_now (g.O.Sink.faults d.out) (g.O.Sink.faults b.out)
-          a.result c.finish.result c.finish.ensures.ends;
-      starts = a.ensures.refusals
-          ∙ refused-finished tasks rejects told told_now (g.S.Refusals.refused d.spawner) (g.S.Refusals.refused b.spawner)
-          a.result c.finish.result c.finish.ensures.ends;
+      input = has.0;
+      output = a.ensures.output_faults ∙ has.1;
+      starts = a.ensures.refusals ∙ has.2;
     }

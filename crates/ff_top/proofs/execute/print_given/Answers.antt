@@ -2,7 +2,7 @@
 use Rattle.std.proofs.Common.{inr}
 use Rattle.std.proofs.KnownBytes.{Keeps-refl}
 use Rattle.ff_net.specs.Tree.{tree_of}
-use Rattle.ff_top.proofs.execute.check_given.Goals as goal
+use Rattle.ff_top.proofs.execute.print_given.Goals as goal
 
 pub returns-in-Ok-print-clause-handled : goal.returns-in-Ok-print-clause-handled
 returns-in-Ok-print-clause-handled g c = inr (record {
