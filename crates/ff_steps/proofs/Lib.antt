@@ -15,6 +15,7 @@ pub mod Handed
 pub mod MessageLists
 pub mod FeederRuns
 pub mod DrainerRuns
+pub mod Heads
 pub mod Chain
 pub mod ChainRejects
 pub mod ChainTook
@@ -24,6 +25,7 @@ pub mod StageEnds
 pub mod OverBegins
 pub mod OverEnds
 pub mod OverWhole
+pub mod OneNode
 pub mod NetWiring
 pub mod NetOpened
 pub mod NetRuns

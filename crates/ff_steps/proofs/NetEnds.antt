@@ -1,5 +1,6 @@
 -- What the core of a network gave whose parties have all ended.
 use Rattle.std.proofs.Common.{◌≡◌, ℕ, Bool, true, false, ◌&&◌, ◌||◌, Option, None, Some, IsSome, List, [], ◌∷◌, ◌++◌, length, map, sum_by, refl, sym, ap, ◌∙◌, subst, append-nil}
+use Rattle.std.proofs.lemmas.List.{length-map}
 use Rattle.std.specs.List.{AllByRecursion, list_all, list_any}
 use Rattle.std.proofs.lemmas.Bool.{and_parts, or_parts, both_ways}
 use Rattle.ff_rec.specs.Lines.{Rec}
@@ -13,7 +14,7 @@ use Rattle.ff_node.specs.Runs.{Message}
 use Rattle.ff_node.specs.Sends.{counted}
 use Rattle.ff_net.specs.Good.{Good}
 use Rattle.ff_net.specs.Meaning.{mean_rejected, mean_rejected_count, Answers}
-use Rattle.ff_net.specs.Nodes.{nodes_in}
+use Rattle.ff_net.specs.Nodes.{nodes_in, node_groups}
 use Rattle.ff_net.specs.Tree.{Tree}
 use Rattle.ff_plan.specs.PlanLaws.{WholeRuns}
 use Rattle.ff_plan.specs.Plans.{rows_of}
@@ -22,18 +23,19 @@ use Rattle.ff_port.specs.Queues.{put_of}
 use Rattle.ff_port.specs.declared.answers.End.{End}
 use Rattle.ff_port.specs.declared.answers.End.TheVariants.{Eos, Abort, Memory}
 use Rattle.ff_unit.specs.MessageLaws.{items-append}
-use Rattle.ff_unit.specs.Stage.{StageState}
+use Rattle.ff_unit.specs.Stage.{StageState, opening_stage}
 use Rattle.ff_unit.specs.StageUnit.{stage_does}
 use Rattle.ff_unit.specs.Units.{Doing, IsUnit}
 use Rattle.ff_steps.specs.Core.{CoreState, edge, IsSound, all_ended, is_cut_off, is_short, held_rejects, taken_rejects}
 use Rattle.ff_steps.specs.NetCores.{IsNetCore}
 use Rattle.ff_steps.specs.OverEdges.{RanAlong, HasAnswered}
 use Rattle.ff_steps.specs.Parties.{Feeder, Drainer, AsUnit, AsFeeder, AsDrainer, has_ended}
-use Rattle.ff_steps.proofs.Chain.{HasEnded}
 use Rattle.ff_steps.proofs.DrainerRuns.{IsEnded, items-drainer, IsEnded-drainer}
 use Rattle.ff_steps.proofs.FeederRuns.{at-feeder_done}
 use Rattle.ff_steps.proofs.MessageLists.{items-carried, ended-front}
 use Rattle.ff_steps.proofs.NetRuns.{RanOver-core, run-feeder, run-drainer}
+use Rattle.ff_steps.proofs.OneNode.{one_group, node_rejected-one}
+use Rattle.ff_steps.proofs.StageEnds.{HasEnded}
 use Rattle.ff_steps.proofs.OverBegins.{comb_laws}
 use Rattle.ff_steps.proofs.OverWhole.{HasAnswered-over}
 
@@ -129,3 +131,12 @@ module _ {N : Type 0} (b : Behaviour N) (kind : KeepsKind b) (law : (o : N) → 
   pub held_of_one-core : keep ≡ true → length c.units ≡ 1
       → taken_rejects (stage_does (comb_node b)) c ++ held_rejects (stage_does (comb_node b)) c ≡ node_rejected (comb_node b) (running (map b.opening (nodes_in t))) c.input
   held_of_one-core kept one = (HasAnswered-core 0).kept_of_one kept one
+
+  -- and in the network's where there is one node
+  pub held_of_node-core : keep ≡ true → length (nodes_in t) ≡ 1 → (m : ℕ)
+      → taken_rejects (stage_does (comb_node b)) c ++ held_rejects (stage_does (comb_node b)) c ≡ mean_rejected b m t c.input
+  held_of_node-core kept one m =
+      held_of_one-core kept (length-made ∙ one_group b kind t is.free good one) ∙ node_rejected-one b kind t is.free (nodes_in t) refl one m c.input
+    where
+      length-made : length c.units ≡ length (node_groups t)
+      length-made = sym (length-map c.units (opening_stage (comb_node b))) ∙ ap length (sound.made_of ∙ is.made) ∙ length-map (node_groups t) _

@@ -26,7 +26,7 @@ use Rattle.ff_unit.specs.StageUnit.{stage_does}
 use Rattle.ff_unit.specs.Units.{Ran, IsUnit}
 use Rattle.ff_steps.specs.OverEdges.{RanAlong, RanOver}
 use Rattle.ff_steps.specs.Units.{opened_units}
-use Rattle.ff_steps.proofs.Chain.{head-same, tail-same}
+use Rattle.ff_steps.proofs.Heads.{head-same, tail-same}
 use Rattle.ff_steps.proofs.PlanStages.{IsStageOf, AreStages, AreStages-lay}
 use Rattle.ff_steps.proofs.StageEnds.{FitsStage-same}
 

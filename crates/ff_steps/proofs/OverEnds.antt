@@ -24,10 +24,10 @@ use Rattle.ff_unit.specs.StageUnit.{stage_does}
 use Rattle.ff_unit.specs.Units.{Ran, HasRejects}
 use Rattle.ff_steps.specs.OverEdges.{RanAlong}
 use Rattle.ff_steps.specs.Units.{opened_units}
-use Rattle.ff_steps.proofs.Chain.{HasEnded, head-same, tail-same}
+use Rattle.ff_steps.proofs.Heads.{head-same, tail-same}
 use Rattle.ff_steps.proofs.OverBegins.{comb_laws, same-node, no_logs}
 use Rattle.ff_steps.proofs.PlanStages.{IsStageOf, AreStages, OnOuts}
-use Rattle.ff_steps.proofs.StageEnds.{HasPassed, HasPassed-ran, FitsStage-same, node_rejected-same}
+use Rattle.ff_steps.proofs.StageEnds.{HasEnded, HasPassed, HasPassed-ran, FitsStage-same, node_rejected-same}
 
 -- the messages before the first Eos
 abbrev pub before_eos : List Message → List Message

@@ -21,8 +21,8 @@ use Rattle.ff_plan.specs.Rows.{Laid}
 use Rattle.ff_unit.specs.MessageLaws.{IsOpen-carried}
 use Rattle.ff_unit.specs.Stage.{StageState}
 use Rattle.ff_steps.specs.OverEdges.{RanOver, HasAnswered}
-use Rattle.ff_steps.proofs.Chain.{HasEnded}
 use Rattle.ff_steps.proofs.MessageLists.{items-carried}
+use Rattle.ff_steps.proofs.StageEnds.{HasEnded}
 use Rattle.ff_steps.proofs.OverBegins.{no_logs}
 use Rattle.ff_steps.proofs.OverEnds.{before_eos, before_eos-whole, AreEnded, AreEnded-stages, IsHistory-ended, calm-ended, OnOuts-ended, number-ended, kept-ended, none-ended}
 use Rattle.ff_steps.proofs.PlanStages.{AreStages, AreStages-lay, OnIns, OnIns-lay, OnOuts-lay}

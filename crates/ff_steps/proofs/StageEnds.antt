@@ -18,7 +18,11 @@ use Rattle.ff_unit.specs.StageUnit.{stage_does}
 use Rattle.ff_unit.specs.Units.{Ran}
 use Rattle.ff_unit.specs.declared.mode.Mode.{Mode}
 use Rattle.ff_unit.specs.declared.mode.Mode.TheVariants.{Live, Shut, Cut}
-use Rattle.ff_steps.proofs.Chain.{head-same}
+use Rattle.ff_steps.proofs.Heads.{head-same}
+
+-- a stage has ended with its in
+abbrev pub HasEnded : {N : Type 0} → StageState N → Type 0
+HasEnded u = (u.done ≡ true) × (u.fin ≡ Some Eos)
 
 -- whole lists, with no end inside, which a stage took and put
 pub record HasPassed {S : Type 0} (b : Behaviour S) (o : S) (got put : List Message) : Type 0 where

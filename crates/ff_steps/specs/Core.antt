@@ -69,3 +69,7 @@ held_rejects b c = flat_map b.kept c.units
 
 abbrev pub taken_rejects : {U : Type 0} → Doing U → CoreState U → List Rec
 taken_rejects b c = flat_map b.taken c.units
+
+-- those that were taken out, and then those that are held
+abbrev pub all_rejects : {U : Type 0} → Doing U → CoreState U → List Rec
+all_rejects b c = taken_rejects b c ++ held_rejects b c

@@ -2,17 +2,18 @@
 ghost use Rattle.std.specs.Prelude.{◌≡◌, ◌≤◌, ◌++◌, ℕ, true, false, length, map, sum_by, IfOk};
 ghost use Rattle.ff_rec.specs.Weights.{Same};
 ghost use Rattle.ff_node.specs.Behaviour.{node_rejected};
-ghost use Rattle.ff_node.specs.Comb.{comb_node, running};
+ghost use Rattle.ff_node.specs.Comb.{comb_node};
 ghost use Rattle.ff_node.specs.Sends.{counted};
 ghost use Rattle.ff_net.specs.Forms.{has_copies};
 ghost use Rattle.ff_net.specs.Meaning.{mean_rejected, mean_rejected_count, Answers};
 ghost use Rattle.ff_net.specs.Nodes.{nodes_in};
 ghost use Rattle.ff_net.specs.Tree.{tree_of};
-ghost use Rattle.ff_unit.specs.StageUnit.{stage_does};
-ghost use Rattle.ff_steps.specs.Core.{is_short, all_ended, held_rejects, taken_rejects, IsSound};
+ghost use Rattle.ff_plan.specs.Histories.{group_of};
+ghost use Rattle.ff_steps.specs.Core.{is_short, all_ended, taken_rejects, all_rejects, IsSound};
 ghost use Rattle.ff_steps.specs.Events.{Follows};
 ghost use Rattle.ff_steps.specs.NetCores.{opened_net, IsGood, IsNetCore};
 ghost use Rattle.ff_steps.specs.Rejects.{Hands};
+ghost use Rattle.ff_steps.specs.Units.{net_does};
 
 use crate::NetUnit;
 use crate::net_core::Core;
@@ -74,26 +75,31 @@ impl<N: Node> NetCore<N> {
     /// that names none does nothing. It answers whether all have ended. Whatever the schedule is, the output is the first of an
     /// answer at each moment; once all have ended, the output and the rejects are those of the network, if memory was never short.
     pub fn run_schedule(&mut self, schedule: &[u32]) -> bool
-        ensures follows { Follows (stage_does (comb_node N.does)) (IsGood N.does (tree_of self.old.checked.net))
+        ensures follows { Follows (net_does N.does) (IsGood N.does (tree_of self.old.checked.net))
             schedule.now self.old.core self.new.core }
         ensures same { (self.new.checked ≡ self.old.checked) × (self.new.keep ≡ self.old.keep) }
-        ensures ended { result ≡ all_ended (stage_does (comb_node N.does)) self.new.core }
-        ensures taken { taken_rejects (stage_does (comb_node N.does)) self.new.core
-            ≡ taken_rejects (stage_does (comb_node N.does)) self.old.core }
-        ensures answers { result ≡ true → is_short (stage_does (comb_node N.does)) self.new.core ≡ false
-            → (m : ℕ) → Answers N.does m (tree_of self.new.checked.net) self.new.core.input self.new.core.drainer.output }
-        ensures rejects { result ≡ true → is_short (stage_does (comb_node N.does)) self.new.core ≡ false
+        ensures input { self.new.core.input ≡ self.old.core.input }
+        ensures ended { result ≡ all_ended (net_does N.does) self.new.core }
+        ensures taken { taken_rejects (net_does N.does) self.new.core
+            ≡ taken_rejects (net_does N.does) self.old.core }
+        ensures answers { result ≡ true → is_short (net_does N.does) self.new.core ≡ false
+            → (m : ℕ) → Answers N.does m (tree_of self.new.checked.net)
+            self.new.core.input self.new.core.drainer.output }
+        ensures rejects { result ≡ true → is_short (net_does N.does) self.new.core ≡ false
             → (m : ℕ) → counted (sum_by (λ u. u.rejects) self.new.core.units)
             ≡ mean_rejected_count N.does m (tree_of self.new.checked.net) self.new.core.input }
-        ensures held { result ≡ true → is_short (stage_does (comb_node N.does)) self.new.core ≡ false
-            → self.new.keep ≡ true → (m : ℕ) → Same (taken_rejects (stage_does (comb_node N.does)) self.new.core
-            ++ held_rejects (stage_does (comb_node N.does)) self.new.core)
+        ensures held { result ≡ true → is_short (net_does N.does) self.new.core ≡ false
+            → self.new.keep ≡ true → (m : ℕ) → Same (all_rejects (net_does N.does) self.new.core)
             (mean_rejected N.does m (tree_of self.new.checked.net) self.new.core.input) }
-        ensures held_of_one { result ≡ true → is_short (stage_does (comb_node N.does)) self.new.core ≡ false
+        ensures held_of_one { result ≡ true → is_short (net_does N.does) self.new.core ≡ false
             → self.new.keep ≡ true → length self.new.core.units ≡ 1
-            → taken_rejects (stage_does (comb_node N.does)) self.new.core
-            ++ held_rejects (stage_does (comb_node N.does)) self.new.core
-            ≡ node_rejected (comb_node N.does) (running (map N.does.opening (nodes_in (tree_of self.new.checked.net)))) self.new.core.input }
+            → all_rejects (net_does N.does) self.new.core
+            ≡ node_rejected (comb_node N.does)
+            (group_of N.does (tree_of self.new.checked.net)) self.new.core.input }
+        ensures held_of_node { result ≡ true → is_short (net_does N.does) self.new.core ≡ false
+            → self.new.keep ≡ true → length (nodes_in (tree_of self.new.checked.net)) ≡ 1
+            → (m : ℕ) → all_rejects (net_does N.does) self.new.core
+            ≡ mean_rejected N.does m (tree_of self.new.checked.net) self.new.core.input }
     {
         checked_networks_are_good(&self.checked);
         whole_runs(&self.checked);
@@ -117,7 +123,7 @@ impl<N: Node> NetCore<N> {
 
     /// Whether memory was short: a unit ended otherwise than by Eos, or the feeder or the drainer was refused memory.
     pub fn short_of_memory(&self) -> bool
-        ensures { result ≡ is_short (stage_does (comb_node N.does)) self.now.core }
+        ensures { result ≡ is_short (net_does N.does) self.now.core }
     {
         self.core.short_of_memory()
     }
@@ -131,10 +137,10 @@ impl<N: Node> NetCore<N> {
 
     /// The first reject of the lowest unit that holds one, which is taken out.
     pub fn take_reject(&mut self) -> Option<Record>
-        ensures handed { Hands (stage_does (comb_node N.does)) self.old.core.units result self.new.core.units }
+        ensures handed { Hands (net_does N.does) self.old.core.units result self.new.core.units }
         ensures others { self.new.core ≡ record self.old.core { units = self.new.core.units } }
         ensures same { (self.new.checked ≡ self.old.checked) × (self.new.keep ≡ self.old.keep) }
-        ensures sound { IsSound (stage_does (comb_node N.does)) self.new.core }
+        ensures sound { IsSound (net_does N.does) self.new.core }
     {
         self.core.take_reject()
     }
