@@ -1,43 +1,22 @@
 -- Stages one behind the other: each takes what the one before it put.
-use Rattle.std.proofs.Common.{◌≡◌, Bool, true, List, [], ◌∷◌, ◌++◌, length, map, Some, refl, sym, ap, ◌∙◌, subst, arith}
+use Rattle.std.proofs.Common.{◌≡◌, Bool, List, [], ◌∷◌, ◌++◌, map, refl, sym, ap, ◌∙◌, subst}
 use Rattle.std.specs.List.{AllByRecursion}
 use Rattle.ff_rec.specs.Lines.{Rec}
 use Rattle.ff_rec.specs.Streams.{at, carried, closed, unaborted, GoesOn}
 use Rattle.ff_node.specs.Behaviour.{Behaviour, node, sent_from, pipeline}
 use Rattle.ff_node.specs.Fits.{FitsStage}
 use Rattle.ff_node.specs.Runs.{Message, AllGoOn, HasOuts, FitsWhole}
-use Rattle.ff_port.specs.declared.answers.End.TheVariants.{Eos}
 use Rattle.ff_unit.specs.Stage.{StageState, opened_stage, opening_stage}
 use Rattle.ff_unit.specs.StageUnit.{stage_does}
 use Rattle.ff_unit.specs.Units.{IsUnit}
 use Rattle.ff_steps.specs.Chains.{Passes, Chained}
+pub use Rattle.ff_steps.proofs.Heads.{head-same, tail-same, cons≢nil}
 use Rattle.ff_steps.proofs.MessageLists.{GoesOn-front, closed-front}
+pub use Rattle.ff_steps.proofs.StageEnds.{HasEnded}
 
 -- they run these nodes
 abbrev pub RunNodes : {N : Type 0} → Behaviour N → Bool → List (StageState N) → List N → Type 0
 RunNodes b keeps us os = map (opening_stage b) us ≡ map (λ o. opened_stage b o keeps) os
-
--- a stage has ended with its in
-abbrev pub HasEnded : {N : Type 0} → StageState N → Type 0
-HasEnded u = (u.done ≡ true) × (u.fin ≡ Some Eos)
-
--- equal lists have equal heads and tails
-pub head-same : {A : Type 0} {x y : A} {xs ys : List A} → x ∷ xs ≡ y ∷ ys → x ≡ y
-head-same {A} {x} {y} e = ap (first x) e
-  where
-    first : A → List A → A
-    first d [] = d
-    first d (z ∷ zs) = z
-
-pub tail-same : {A : Type 0} {x y : A} {xs ys : List A} → x ∷ xs ≡ y ∷ ys → xs ≡ ys
-tail-same {A} e = ap rest e
-  where
-    rest : List A → List A
-    rest [] = []
-    rest (z ∷ zs) = zs
-
-pub cons≢nil : {A : Type 0} {x : A} {xs : List A} → x ∷ xs ≡ [] → ⊥
-cons≢nil e = absurd (omega (arith, ap length e))
 
 -- the first of lists that go on
 first-goes_on : (c : List Message) (mss : List (List Message)) → AllGoOn (c ∷ []) mss → GoesOn (unaborted c) (at mss 0)

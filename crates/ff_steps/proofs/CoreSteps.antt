@@ -34,7 +34,7 @@ puts_of-row : {U : Type 0} (c : CoreState U) (p : ℕ) (row : Row) → row_at c.
 puts_of-row c p row is = ap (λ (r : Row). puts_at c.edges r.outs) is
 
 -- the rows behind those of the units
-row-behind : (rows : List Row) (p i : ℕ) → p ≡ length rows + i → row_at (all_rows rows) p ≡ row_at (feeder_row ∷ drainer_row ∷ []) i
+pub row-behind : (rows : List Row) (p i : ℕ) → p ≡ length rows + i → row_at (all_rows rows) p ≡ row_at (feeder_row ∷ drainer_row ∷ []) i
 row-behind [] p i e = let same : p ≡ i = omega (arith, e) in ap (λ n. row_at (feeder_row ∷ drainer_row ∷ []) n) same
 row-behind (r ∷ rows) zero i e = absurd (omega (arith, e))
 row-behind (r ∷ rows) (suc p) i e = row-behind rows p i (omega (arith, e))

@@ -1,9 +1,9 @@
 -- The units of a network before their first steps.
-use Rattle.std.proofs.Common.{◌≡◌, Bool, true, List, [], ◌∷◌, length, map, refl, sym, ap, ap₂, arith}
+use Rattle.std.proofs.Common.{◌≡◌, Bool, true, List, [], ◌∷◌, length, map, refl, sym, ap, arith}
 use Rattle.std.specs.List.{All}
 use Rattle.std.proofs.lemmas.List.Elements.{All-nil, All-cons}
 use Rattle.ff_node.specs.Behaviour.{Behaviour, KeepsKind}
-use Rattle.ff_node.specs.Comb.{Part, comb_node, running}
+use Rattle.ff_node.specs.Comb.{comb_node, running}
 use Rattle.ff_node.specs.CombKindLaws.{comb_keeps_kind}
 use Rattle.ff_net.proofs.NodeGroups.{InRange-node_groups}
 use Rattle.ff_net.specs.Good.{Good, InRange}
@@ -14,7 +14,6 @@ use Rattle.ff_unit.specs.Stage.{started, opened_stage}
 use Rattle.ff_unit.specs.StageUnit.{stage_does}
 use Rattle.ff_unit.specs.Units.{Ran}
 use Rattle.ff_steps.specs.Units.{opened_units}
-use Rattle.ff_steps.proofs.Chain.{RunNodes}
 
 -- a stage that made no step took and put nothing
 Ran-opened : {N : Type 0} (b : Behaviour N) → KeepsKind b → (n : N) (keep : Bool) → Ran (stage_does b) (opened_stage b n keep) ([] ∷ []) ([] ∷ [])
@@ -26,15 +25,6 @@ Ran-opened_units b kind keep [] = All-nil (λ u. Ran (stage_does (comb_node b)) 
 Ran-opened_units b kind keep (g ∷ groups) = All-cons (λ u. Ran (stage_does (comb_node b)) u ([] ∷ []) ([] ∷ []))
     (opened_stage (comb_node b) (running (map b.opening g)) keep) (opened_units b keep groups)
     (Ran-opened (comb_node b) (comb_keeps_kind b kind) (running (map b.opening g)) keep) (Ran-opened_units b kind keep groups)
-
--- the combs that these units run
-abbrev pub combs_of : {N : Type 0} → Behaviour N → List (List N) → List (List (Part N))
-combs_of b groups = map (λ g. running (map b.opening g)) groups
-
-pub RunNodes-opened_units : {N : Type 0} (b : Behaviour N) → KeepsKind b → (keep : Bool) (groups : List (List N)) → RunNodes (comb_node b) keep (opened_units b keep groups) (combs_of b groups)
-RunNodes-opened_units b kind keep [] = refl
-RunNodes-opened_units b kind keep (g ∷ groups) = ap₂ (λ u us. u ∷ us)
-    (ap (λ n. started n keep) ((comb_keeps_kind b kind).opening_of_opening (running (map b.opening g)))) (RunNodes-opened_units b kind keep groups)
 
 -- a leaf or a comb has as many nodes as a unit takes
 pub InRange-nodes_in : {N : Type 0} (b : Behaviour N) (t : Tree N) → Good b t → is_node t ≡ true → InRange (length (nodes_in t))

@@ -1,15 +1,15 @@
 -- A core: units, a feeder and a drainer over plain queues, on one thread.
-use Rattle.std.specs.Prelude.{◌≡◌, ℕ, ◌+◌, ◌<◌, Bool, true, false, ◌&&◌, ◌||◌, List, [], ◌∷◌, ◌++◌, map, length, replicate, slice_index_or, Option, None, Some}
+use Rattle.std.specs.Prelude.{◌≡◌, ℕ, ◌<◌, Bool, true, false, ◌&&◌, ◌||◌, List, [], ◌∷◌, ◌++◌, map, length, slice_index_or, Option, None, Some}
 use Rattle.std.specs.List.{list_all, list_any, flat_map}
 use Rattle.ff_rec.specs.Lines.{Rec}
 use Rattle.ff_node.specs.Runs.{Message}
-use Rattle.ff_port.specs.Queues.{Queue, empty_queue}
+use Rattle.ff_port.specs.Queues.{Queue}
 use Rattle.ff_port.specs.declared.answers.End.{End}
 use Rattle.ff_port.specs.declared.answers.End.TheVariants.{Eos, Abort, Memory}
 use Rattle.ff_unit.specs.Units.{Doing}
 use Rattle.ff_steps.specs.Links.{edge_at, gots_at, puts_at}
-use Rattle.ff_steps.specs.Parties.{Party, AsUnit, AsFeeder, AsDrainer, Feeder, Drainer, PartyRan, has_ended, opening_feeder, opening_drainer}
-use Rattle.ff_steps.specs.Wiring.{Row, row_at, IsWired, pipeline_rows}
+use Rattle.ff_steps.specs.Parties.{Party, AsUnit, AsFeeder, AsDrainer, Feeder, Drainer, PartyRan, has_ended}
+use Rattle.ff_steps.specs.Wiring.{Row, row_at, IsWired}
 
 -- `U` is what is seen of a unit
 pub record CoreState (U : Type 0) : Type 0 where
@@ -48,18 +48,6 @@ pub record IsSound {U : Type 0} (b : Doing U) (c : CoreState U) : Type 0 where
   pub rows_are : length c.rows ≡ length (parties c)
   pub ran : (p : ℕ) → p < length (parties c) → PartyRan b c.input (party c p) (gots_of c p) (puts_of c p)
 
--- a pipeline of these units before its first event
-abbrev pub opened_pipeline : {U : Type 0} → List U → ℕ → List Rec → CoreState U
-opened_pipeline units cap input = record {
-  made = units;
-  input = input;
-  rows = pipeline_rows (length units);
-  edges = replicate (length units + 1) (empty_queue cap);
-  units = units;
-  feeder = opening_feeder input;
-  drainer = opening_drainer;
-}
-
 -- whether all parties have ended
 abbrev pub all_ended : {U : Type 0} → Doing U → CoreState U → Bool
 all_ended b c = list_all (has_ended b) (parties c)
@@ -81,3 +69,7 @@ held_rejects b c = flat_map b.kept c.units
 
 abbrev pub taken_rejects : {U : Type 0} → Doing U → CoreState U → List Rec
 taken_rejects b c = flat_map b.taken c.units
+
+-- those that were taken out, and then those that are held
+abbrev pub all_rejects : {U : Type 0} → Doing U → CoreState U → List Rec
+all_rejects b c = taken_rejects b c ++ held_rejects b c

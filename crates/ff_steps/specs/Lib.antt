@@ -7,5 +7,6 @@ pub mod Events
 pub mod Moves
 pub mod Rejects
 pub mod Seen
-pub mod Pipelines
 pub mod Units
+pub mod OverEdges
+pub mod NetCores

@@ -1,5 +1,5 @@
 -- Which edges each party of a core reads and writes.
-use Rattle.std.specs.Prelude.{◌≡◌, ℕ, zero, suc, ◌<◌, ◌==◌, if◌then◌else◌, List, [], ◌∷◌, ◌++◌, length, slice_index, slice_index_or}
+use Rattle.std.specs.Prelude.{◌≡◌, ℕ, ◌<◌, List, [], ◌∷◌, ◌++◌, length, slice_index, slice_index_or}
 
 -- the edges that a party reads, and those that it writes, in the order of its ins and outs
 pub record Row : Type 0 where
@@ -39,22 +39,3 @@ drainer_row = record { ins = 1 ∷ []; outs = [] }
 -- the rows of all parties, by those of the units
 abbrev pub all_rows : List Row → List Row
 all_rows rows = rows ++ feeder_row ∷ drainer_row ∷ []
-
--- in a pipeline of `k` units, unit 0 reads edge 0, the last one writes edge 1, and edges 2 and up stand between neighbours
-abbrev pub pipeline_in : ℕ → ℕ
-pipeline_in zero = 0
-pipeline_in (suc i) = suc (suc i)
-
-abbrev pub pipeline_out : ℕ → ℕ → ℕ
-pipeline_out k i = if suc i == k then 1 else suc (suc i)
-
-abbrev pub unit_row : ℕ → ℕ → Row
-unit_row k i = record { ins = pipeline_in i ∷ []; outs = pipeline_out k i ∷ [] }
-
--- the rows of the units from number `i` on, `m` of them
-abbrev pub unit_rows : ℕ → ℕ → ℕ → List Row
-unit_rows k i zero = []
-unit_rows k i (suc m) = unit_row k i ∷ unit_rows k (suc i) m
-
-abbrev pub pipeline_rows : ℕ → List Row
-pipeline_rows k = all_rows (unit_rows k 0 k)

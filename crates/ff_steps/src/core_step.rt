@@ -3,7 +3,7 @@ ghost use Rattle.std.specs.Prelude.{◌≡◌, ◌<◌, ◌≤◌, ◌+◌, leng
 ghost use Rattle.ff_steps.specs.Core.{IsSound};
 ghost use Rattle.ff_steps.specs.Events.{CoreStep, Event};
 
-use crate::Core;
+use crate::net_core::Core;
 use crate::unit_step::step_unit;
 use ff_unit::Unit;
 

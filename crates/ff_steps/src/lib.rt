@@ -6,7 +6,8 @@ mod drainer;
 mod ends;
 mod feeder;
 mod net_core;
-mod pipeline;
+mod network;
+mod opening;
 mod rejects;
 mod row;
 mod row_ports;
@@ -14,9 +15,7 @@ mod schedule;
 mod unit_step;
 mod units;
 
-pub use net_core::Core;
-pub use pipeline::run_pipeline;
-pub use schedule::run_schedule;
+pub use network::NetCore;
 pub use units::{NetUnit, make_units};
 
 #[cfg(test)]

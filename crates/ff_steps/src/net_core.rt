@@ -1,10 +1,11 @@
 // The core: units, a feeder and a drainer over plain queues.
-ghost use Rattle.std.specs.Prelude.{◌≡◌, ◌&&◌, false, sum_by, is_some};
+ghost use Rattle.std.specs.Prelude.{◌≡◌, ◌≤◌, ◌&&◌, sum_by, is_some, vec_len};
 ghost use Rattle.std.specs.List.{list_all};
 ghost use Rattle.ff_node.specs.Sends.{counted};
 ghost use Rattle.ff_unit.specs.Units.{end_of};
 ghost use Rattle.ff_steps.specs.Rejects.{Hands};
 ghost use Rattle.ff_steps.specs.Core.{is_short, all_ended, IsSound};
+ghost use Rattle.ff_steps.specs.NetCores.{opened_core};
 
 use crate::drainer::Drainer;
 use crate::ends::{all_done, any_cut_off};
@@ -15,12 +16,13 @@ use ff_node::Records;
 use ff_port::PlainQueue;
 use ff_rec::Record;
 use ff_unit::Unit;
+use std::alloc::Global;
 use std::marker::Model;
 
 /// Units over plain queues, which step one at a time, in any order. A feeder puts the input on edge 0, and a drainer keeps what
 /// comes over edge 1.
 #[derive(Drop)]
-pub struct Core<U: Unit> {
+pub(crate) struct Core<U: Unit> {
     pub(crate) rows: Vec<PortRow>,
     pub(crate) edges: Vec<PlainQueue<Record>>,
     pub(crate) units: Vec<U>,
@@ -44,36 +46,62 @@ impl<U: Unit> Model for Core<U> {
 }
 
 impl<U: Unit> Core<U> {
+    /// These units before their first event.
+    pub(crate) fn start(
+        alloc: Global,
+        units: Vec<U>,
+        rows: Vec<PortRow>,
+        edges: Vec<PlainQueue<Record>>,
+        input: Records,
+    ) -> Core<U>
+        requires few { vec_len units ≤ 65536 }
+        requires sound { IsSound U.does
+            (opened_core U.does units.items rows.items edges.items input) }
+        ensures { result ≡ opened_core U.does units.items rows.items edges.items input }
+    {
+        let feeder = Feeder {
+            input,
+            fed: 0,
+            refused: false,
+            done: false,
+        };
+        let drainer = Drainer {
+            output: Records::new(alloc),
+            refused: false,
+            done: false,
+        };
+        Core {
+            rows,
+            edges,
+            units,
+            feeder,
+            drainer,
+        }
+    }
+
     /// What the drainer kept.
-    pub fn output(&self) -> &Records
+    pub(crate) fn output(&self) -> &Records
         ensures { result.now ≡ self.now.drainer.output }
     {
         &self.drainer.output
     }
 
-    /// Whether it is over, whatever its parties do. A core without feedback never is.
-    pub fn over(&self) -> bool
-        ensures { result ≡ false }
-    {
-        false
-    }
-
     /// Whether memory was short: a unit ended otherwise than by Eos, or the feeder or the drainer was refused memory.
-    pub fn short_of_memory(&self) -> bool
+    pub(crate) fn short_of_memory(&self) -> bool
         ensures { result ≡ is_short U.does self.now }
     {
         any_cut_off(&self.units) || (self.feeder.refused || self.drainer.refused)
     }
 
     /// How many records the units rejected, up to 2^64 - 1.
-    pub fn rejected(&self) -> u64
+    pub(crate) fn rejected(&self) -> u64
         ensures { result ≡ counted (sum_by U.does.rejects self.now.units) }
     {
         rejected(&self.units)
     }
 
     /// The first reject of the lowest unit that holds one, which is taken out.
-    pub fn take_reject(&mut self) -> Option<Record>
+    pub(crate) fn take_reject(&mut self) -> Option<Record>
         ensures handed { Hands U.does self.old.units result self.new.units }
         ensures others { self.new ≡ record self.old { units = self.new.units } }
         ensures sound { IsSound U.does self.new }

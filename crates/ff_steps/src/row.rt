@@ -1,6 +1,8 @@
 // Which edges a unit reads and writes.
-ghost use Rattle.std.specs.Prelude.{◌≡◌, [], ◌∷◌, IfOk};
+ghost use Rattle.std.specs.Prelude.{◌≡◌, IfOk};
+ghost use Rattle.ff_steps.specs.NetCores.{port_row};
 
+use ff_plan::UnitRow;
 use ff_rec::NoMemory;
 use std::alloc::Global;
 use std::marker::Model;
@@ -21,12 +23,12 @@ impl Model for PortRow {
 }
 
 impl PortRow {
-    /// One in and one out.
-    pub(crate) fn between(alloc: Global, from: usize, to: usize) -> Result<PortRow, NoMemory>
-        ensures { IfOk result (λ row. row ≡ record { ins = from ∷ []; outs = to ∷ [] }) }
+    /// Those of a unit of a plan.
+    pub(crate) fn of(alloc: Global, unit: &UnitRow) -> Result<PortRow, NoMemory>
+        ensures { IfOk result (λ row. row ≡ port_row unit.now) }
     {
-        let ins = Vec::from_array(alloc, [from])?;
-        let outs = Vec::from_array(alloc, [to])?;
+        let ins = numbers(alloc, unit.ins.as_slice())?;
+        let outs = numbers(alloc, unit.outs.as_slice())?;
         Ok(PortRow { ins, outs })
     }
 
@@ -43,4 +45,15 @@ impl PortRow {
     {
         &self.outs
     }
+}
+
+// These edges as indexes.
+fn numbers(alloc: Global, edges: &[u32]) -> Result<Vec<usize>, NoMemory>
+    ensures { IfOk result (λ numbers. numbers.items ≡ edges.now) }
+{
+    let mut numbers = Vec::with_capacity(alloc, edges.len())?;
+    for edge in edges {
+        numbers.push(*edge as usize)?;
+    }
+    Ok(numbers)
 }

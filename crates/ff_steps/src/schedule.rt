@@ -3,11 +3,11 @@ ghost use Rattle.std.specs.Prelude.{◌≡◌};
 ghost use Rattle.ff_steps.specs.Core.{all_ended, taken_rejects, IsSound};
 ghost use Rattle.ff_steps.specs.Events.{Follows};
 
-use crate::Core;
+use crate::net_core::Core;
 use ff_unit::Unit;
 
 /// One step of each named party in turn. A number that names none does nothing. It answers whether all have ended.
-pub fn run_schedule<U: Unit>(core: &mut Core<U>, schedule: &[u32]) -> bool
+pub(crate) fn run_schedule<U: Unit>(core: &mut Core<U>, schedule: &[u32]) -> bool
     ensures follows { Follows U.does (IsSound U.does) schedule.now core.old core.new }
     ensures sound { IsSound U.does core.new }
     ensures ended { result ≡ all_ended U.does core.new }

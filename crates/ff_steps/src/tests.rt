@@ -4,10 +4,10 @@ mod schedules;
 mod stages;
 mod units;
 
-use crate::{Core, run_schedule};
+use crate::NetCore;
+use ff_net::{Net, Version, check};
 use ff_node::{Class, Next, Node, Records, Sends};
 use ff_rec::{Field, NoMemory, Record};
-use ff_unit::Stage;
 use std::alloc::Global;
 use std::process::Abort;
 use std::test::Fail;
@@ -87,41 +87,36 @@ fn shows(r: Option<&Record>, bytes: &[u8]) -> bool {
     }
 }
 
-fn gates(alloc: Global, shut: &[bool]) -> Result<Vec<Gate>, Fail> {
-    let mut nodes = Vec::new(alloc);
-    for shut in shut {
-        nodes.push(Gate { shut: *shut })?;
-    }
-    Ok(nodes)
-}
-
-// A pipeline of gates before its first step.
-fn opened(
+// The core of a network before its first event.
+fn opened<N: Node>(
     rt: &impl Abort,
     alloc: Global,
-    shut: &[bool],
+    net: Net<N>,
     cap: u32,
     input: &str,
-) -> Result<Core<Stage<Gate>>, Fail> {
-    let nodes = gates(alloc, shut)?;
-    assert!(rt; !nodes.is_empty());
-    assert!(rt; nodes.len() <= 64);
+) -> Result<NetCore<N>, Fail> {
+    let checked = check(net, Version::Two).ok().ok_or("refused")?;
+    assert!(rt; !checked.has_copies());
     assert!(rt; 1 <= cap && cap <= 4096);
     let input = records(alloc, input)?;
-    Ok(Core::line(alloc, nodes, cap, true, input)?)
+    Ok(NetCore::new(alloc, checked, cap, true, input)?)
+}
+
+fn leaf(shut: bool) -> Net<Gate> {
+    Net::Leaf(Gate { shut })
 }
 
 #[test]
 fn one_record_through_one_node(rt: HostRuntime) -> Result<(), Fail> {
-    let mut core = opened(&rt, rt.alloc(), &[false], 1, "a")?;
+    let mut core = opened(&rt, rt.alloc(), leaf(false), 1, "a")?;
 
     // The feeder puts the record, the unit takes it and sends it, the drainer keeps it. No party has ended.
-    assert!(rt; !run_schedule(&mut core, &[1, 0, 0, 2]));
+    assert!(rt; !core.run_schedule(&[1, 0, 0, 2]));
     assert_eq!(rt; core.output().len(), 1);
     assert!(rt; shows(core.output().get(0), b"a"));
 
     // Eos goes the same way, and the unit ends a step later. A unit that has ended stays so.
-    assert!(rt; run_schedule(&mut core, &[1, 0, 0, 2, 0, 0]));
+    assert!(rt; core.run_schedule(&[1, 0, 0, 2, 0, 0]));
     assert_eq!(rt; core.output().len(), 1);
     assert!(rt; shows(core.output().get(0), b"a"));
     assert!(rt; !core.short_of_memory());
@@ -132,15 +127,16 @@ fn one_record_through_one_node(rt: HostRuntime) -> Result<(), Fail> {
 
 #[test]
 fn rejects_along_the_pipeline(rt: HostRuntime) -> Result<(), Fail> {
-    let mut core = opened(&rt, rt.alloc(), &[false, true], 2, "a b")?;
+    let net = Net::Pipe(vec![in rt.alloc(); leaf(false), leaf(true)]?);
+    let mut core = opened(&rt, rt.alloc(), net, 2, "a b")?;
 
     // A number that names no party does nothing, nor does a step that finds its edge empty.
-    assert!(rt; !run_schedule(&mut core, &[9, 4, 3, 0, 1]));
-    assert!(rt; !run_schedule(&mut core, &[2, 2, 2, 2, 0, 0, 0, 0, 1, 1]));
+    assert!(rt; !core.run_schedule(&[9, 4, 3, 0, 1]));
+    assert!(rt; !core.run_schedule(&[2, 2, 2, 2, 0, 0, 0, 0, 1, 1]));
     assert_eq!(rt; core.rejected(), 2);
     assert!(rt; shows(core.take_reject().as_ref(), b"a"));
 
-    assert!(rt; run_schedule(&mut core, &[2, 0, 0, 0, 1, 1, 1, 3]));
+    assert!(rt; core.run_schedule(&[2, 0, 0, 0, 1, 1, 1, 3]));
     assert!(rt; core.output().is_empty());
     assert_eq!(rt; core.rejected(), 2);
     assert!(rt; shows(core.take_reject().as_ref(), b"b"));

@@ -1,9 +1,9 @@
-// Many random schedules of one pipeline, whose middle node ends by itself.
+// Many random schedules of networks, whose middle node ends by itself.
 use super::narrow::{Narrow, narrow_of};
-use super::records;
-use crate::{Core, run_pipeline, run_schedule};
+use super::opened;
+use crate::NetCore;
+use ff_net::Net;
 use ff_rec::print_record;
-use ff_unit::Stage;
 use std::alloc::Global;
 use std::process::Abort;
 use std::test::Fail;
@@ -15,20 +15,44 @@ const OUTPUT: &[u8] = b"a\nb\n";
 
 const REJECTS: &[u8] = b"bad\nworse\n";
 
-fn nodes(alloc: Global) -> Result<Vec<Narrow>, Fail> {
-    let mut nodes = Vec::new(alloc);
-    nodes.push(narrow_of(100))?;
-    nodes.push(narrow_of(2))?;
-    nodes.push(narrow_of(100))?;
-    Ok(nodes)
+// Networks of these three nodes.
+#[derive(Clone, Copy, Debug)]
+enum Form {
+    // A unit for each.
+    Flat,
+    // The same, with pipes in a pipe.
+    Nested,
+    // The first one alone, and the others as one unit.
+    Paired,
+    // One unit.
+    Joined,
 }
 
-fn pipeline(rt: &impl Abort, alloc: Global, cap: u32) -> Result<Core<Stage<Narrow>>, Fail> {
-    let nodes = nodes(alloc)?;
-    assert!(rt; nodes.len() == 3);
-    assert!(rt; 1 <= cap && cap <= 4096);
-    let input = records(alloc, INPUT)?;
-    Ok(Core::line(alloc, nodes, cap, true, input)?)
+// A run: the form of the network, the capacity of its queues, and where its random numbers start.
+#[derive(Clone, Copy, Debug)]
+struct Run {
+    form: Form,
+    cap: u32,
+    seed: u32,
+}
+
+fn network(alloc: Global, form: Form) -> Result<Net<Narrow>, Fail> {
+    let first = Net::Leaf(narrow_of(100));
+    let middle = Net::Leaf(narrow_of(2));
+    let last = Net::Leaf(narrow_of(100));
+    Ok(match form {
+        Form::Flat => Net::Pipe(vec![in alloc; first, middle, last]?),
+        Form::Nested => {
+            let front = Net::Pipe(vec![in alloc; first]?);
+            let back = Net::Pipe(vec![in alloc; middle, last]?);
+            Net::Pipe(vec![in alloc; front, back]?)
+        }
+        Form::Paired => {
+            let others = Net::Comb(vec![in alloc; middle, last]?);
+            Net::Pipe(vec![in alloc; first, others]?)
+        }
+        Form::Joined => Net::Comb(vec![in alloc; first, middle, last]?),
+    })
 }
 
 // The next number of a xorshift generator.
@@ -39,7 +63,7 @@ fn random(seed: &mut u32) -> u32 {
     *seed
 }
 
-// Ten numbers from 0 to 6. The parties are 0 to 4.
+// Ten numbers from 0 to 6. The parties are 0 to 4 at most.
 fn ten(seed: &mut u32) -> [u32; 10] {
     let mut events = [0; 10];
     for event in &mut events {
@@ -49,7 +73,7 @@ fn ten(seed: &mut u32) -> [u32; 10] {
 }
 
 // The output so far, one record a line.
-fn output(alloc: Global, core: &Core<Stage<Narrow>>) -> Result<Vec<u8>, Fail> {
+fn output(alloc: Global, core: &NetCore<Narrow>) -> Result<Vec<u8>, Fail> {
     let mut text = Vec::new(alloc);
     for k in 0..core.output().len() {
         if let Some(r) = core.output().get(k) {
@@ -60,7 +84,7 @@ fn output(alloc: Global, core: &Core<Stage<Narrow>>) -> Result<Vec<u8>, Fail> {
 }
 
 // The rejects, which are taken out, one record a line.
-fn rejects(alloc: Global, core: &mut Core<Stage<Narrow>>) -> Result<Vec<u8>, Fail> {
+fn rejects(alloc: Global, core: &mut NetCore<Narrow>) -> Result<Vec<u8>, Fail> {
     let mut text = Vec::new(alloc);
     for _ in 0..core.rejected() {
         if let Some(r) = core.take_reject() {
@@ -74,26 +98,22 @@ fn rejects(alloc: Global, core: &mut Core<Stage<Narrow>>) -> Result<Vec<u8>, Fai
 fn run_tens(
     rt: &impl Abort,
     alloc: Global,
-    core: &mut Core<Stage<Narrow>>,
-    cap: u32,
-    start: u32,
+    core: &mut NetCore<Narrow>,
+    run: Run,
 ) -> Result<(), Fail> {
-    let mut seed = start;
+    let mut seed = run.seed;
     for _ in 0..20 {
-        run_schedule(core, &ten(&mut seed));
+        core.run_schedule(&ten(&mut seed));
         let text = output(alloc, core)?;
-        assert!(rt;
-            OUTPUT.starts_with(&text),
-            "capacity {cap}, seed {start}: {text:?}"
-        );
+        assert!(rt; OUTPUT.starts_with(&text), "{run:?}: {text:?}");
     }
     Ok(())
 }
 
 // Sweeps over the parties until all have ended, and answers whether they have.
-fn sweeps(core: &mut Core<Stage<Narrow>>) -> bool {
+fn sweeps(core: &mut NetCore<Narrow>) -> bool {
     for _ in 0..100 {
-        if run_pipeline(core, &[0, 1, 2, 3, 4]) {
+        if core.run_schedule(&[0, 1, 2, 3, 4]) {
             return true;
         }
     }
@@ -104,32 +124,34 @@ fn sweeps(core: &mut Core<Stage<Narrow>>) -> bool {
 fn check_answer(
     rt: &impl Abort,
     alloc: Global,
-    core: &mut Core<Stage<Narrow>>,
-    cap: u32,
-    seed: u32,
+    core: &mut NetCore<Narrow>,
+    run: Run,
 ) -> Result<(), Fail> {
-    assert!(rt; !core.short_of_memory(), "capacity {cap}, seed {seed}");
+    assert!(rt; !core.short_of_memory() && !core.over(), "{run:?}");
     let output = output(alloc, core)?;
-    assert_eq!(rt; output.as_slice(), OUTPUT, "capacity {cap}, seed {seed}");
+    assert_eq!(rt; output.as_slice(), OUTPUT, "{run:?}");
     let rejects = rejects(alloc, core)?;
-    assert_eq!(rt; rejects.as_slice(), REJECTS, "capacity {cap}, seed {seed}");
+    assert_eq!(rt; rejects.as_slice(), REJECTS, "{run:?}");
     let all_taken = core.rejected() == 2 && core.take_reject().is_none();
-    assert!(rt; all_taken, "capacity {cap}, seed {seed}");
+    assert!(rt; all_taken, "{run:?}");
     Ok(())
 }
 
-fn runs_to_the_answer(rt: &impl Abort, alloc: Global, cap: u32, seed: u32) -> Result<(), Fail> {
-    let mut core = pipeline(rt, alloc, cap)?;
-    run_tens(rt, alloc, &mut core, cap, seed)?;
-    assert!(rt; sweeps(&mut core), "capacity {cap}, seed {seed}");
-    check_answer(rt, alloc, &mut core, cap, seed)
+fn runs_to_the_answer(rt: &impl Abort, alloc: Global, run: Run) -> Result<(), Fail> {
+    let net = network(alloc, run.form)?;
+    let mut core = opened(rt, alloc, net, run.cap, INPUT)?;
+    run_tens(rt, alloc, &mut core, run)?;
+    assert!(rt; sweeps(&mut core), "{run:?}");
+    check_answer(rt, alloc, &mut core, run)
 }
 
 #[test]
 fn random_schedules_give_the_one_thread_answer(rt: HostRuntime) -> Result<(), Fail> {
-    for cap in [1, 2, 64] {
-        for seed in 1..201 {
-            runs_to_the_answer(&rt, rt.alloc(), cap, seed)?;
+    for form in [Form::Flat, Form::Nested, Form::Paired, Form::Joined] {
+        for cap in [1, 2, 64] {
+            for seed in 1..101 {
+                runs_to_the_answer(&rt, rt.alloc(), Run { form, cap, seed })?;
+            }
         }
     }
     Ok(())

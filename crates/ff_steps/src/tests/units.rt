@@ -4,7 +4,7 @@ ghost use Rattle.ff_net.specs.Forms.{has_copies};
 ghost use Rattle.ff_net.specs.Tree.{tree_of};
 ghost use Rattle.ff_unit.specs.Units.{Ran};
 
-use super::{Gate, record};
+use super::{Gate, leaf, record};
 use crate::make_units;
 use ff_net::{Checked, Net, Version, check};
 use ff_port::{Msg, Outbox, OwnPorts, PlainQueue};
@@ -13,10 +13,6 @@ use ff_unit::Unit;
 use std::alloc::Global;
 use std::process::Abort;
 use std::test::Fail;
-
-fn leaf(shut: bool) -> Net<Gate> {
-    Net::Leaf(Gate { shut })
-}
 
 // The second node of the comb rejects each record, the others send each on.
 fn network(alloc: Global) -> Result<Checked<Gate>, Fail> {

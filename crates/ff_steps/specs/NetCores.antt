@@ -1,0 +1,61 @@
+-- Cores of the units of a network.
+use Rattle.std.specs.Prelude.{◌≡◌, ℕ, Bool, false, List, map}
+use Rattle.ff_rec.specs.Lines.{Rec}
+use Rattle.ff_node.specs.Behaviour.{Behaviour}
+use Rattle.ff_node.specs.Comb.{Part, comb_node}
+use Rattle.ff_net.specs.Forms.{has_copies}
+use Rattle.ff_net.specs.Nodes.{node_groups}
+use Rattle.ff_net.specs.Tree.{Tree}
+use Rattle.ff_plan.specs.declared.kind.Queue.TheVariants.{Ring}
+use Rattle.ff_plan.specs.declared.layout.Edge.{Edge}
+use Rattle.ff_plan.specs.PlanLaws.{BeginsAnswer}
+use Rattle.ff_plan.specs.Plans.{rows_of, plan_of}
+use Rattle.ff_plan.specs.Rows.{Row as PlanRow}
+use Rattle.ff_port.specs.Queues.{Queue, empty_queue}
+use Rattle.ff_unit.specs.Stage.{StageState}
+use Rattle.ff_unit.specs.StageUnit.{stage_does}
+use Rattle.ff_unit.specs.Units.{Doing}
+use Rattle.ff_steps.specs.Core.{CoreState, IsSound}
+use Rattle.ff_steps.specs.Parties.{opening_feeder, opening_drainer}
+use Rattle.ff_steps.specs.Units.{opened_units}
+use Rattle.ff_steps.specs.Wiring.{Row, all_rows}
+
+-- the edges that a unit of a plan reads and those that it writes
+abbrev pub port_row : PlanRow → Row
+port_row row = record { ins = row.ins; outs = row.outs }
+
+-- the rows of the units of a network's plan
+abbrev pub port_rows : {N : Type 0} → Tree N → List Row
+port_rows t = map port_row (rows_of t)
+
+-- an empty queue for each edge, which holds as many messages as the edge
+abbrev pub edge_queues : List Edge → List (Queue Rec)
+edge_queues edges = map (λ e. empty_queue e.cap) edges
+
+-- a core of these units before its first event
+abbrev pub opened_core : {U : Type 0} → Doing U → List U → List Row → List (Queue Rec) → List Rec → CoreState U
+opened_core d units rows edges input = record {
+  made = map d.opening units;
+  input = input;
+  rows = all_rows rows;
+  edges = edges;
+  units = units;
+  feeder = opening_feeder input;
+  drainer = opening_drainer;
+}
+
+-- a core of the units of a network before its first event
+abbrev pub opened_net : {N : Type 0} → Behaviour N → Bool → Tree N → ℕ → List Rec → CoreState (StageState (List (Part N)))
+opened_net b keep t cap input =
+    opened_core (stage_does (comb_node b)) (opened_units b keep (node_groups t)) (port_rows t) (edge_queues (plan_of t cap Ring).edges) input
+
+-- the core was made of this network
+pub record IsNetCore {N : Type 0} (b : Behaviour N) (keep : Bool) (t : Tree N) (c : CoreState (StageState (List (Part N)))) : Type 0 where
+  pub free : has_copies t ≡ false
+  pub made : c.made ≡ opened_units b keep (node_groups t)
+  pub rows : c.rows ≡ all_rows (port_rows t)
+
+-- a good moment of the core of a network: each party is reached by its own steps, and the output is the first of an answer
+pub record IsGood {N : Type 0} (b : Behaviour N) (t : Tree N) (c : CoreState (StageState (List (Part N)))) : Type 0 where
+  pub sound : IsSound (stage_does (comb_node b)) c
+  pub begins : (m : ℕ) → BeginsAnswer b m t c.input c.drainer.output
