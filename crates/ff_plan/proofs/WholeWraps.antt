@@ -14,7 +14,7 @@ use Rattle.ff_node.specs.Runs.{Message}
 use Rattle.ff_net.specs.declared.net.Test.{Test}
 use Rattle.ff_net.specs.Good.{Good, PlainNode}
 use Rattle.ff_net.specs.Levels.{IsOver, over_levels, results}
-use Rattle.ff_net.specs.Logs.{Event, fed, given, given_to, came, came_out, Within, IsLegal, FitsMaster, AreMasterIns, CarryTasks, HasDone, HasOverrun}
+use Rattle.ff_net.specs.Logs.{Event, fed, given_to, came, came_out, Within, IsLegal, FitsMaster, AreMasterIns, CarryTasks, HasDone, HasOverrun}
 use Rattle.ff_net.specs.Meaning.{mean, mean_rejected}
 use Rattle.ff_net.specs.Places.{child}
 use Rattle.ff_net.specs.Tree.{Tree, Wrap}
