@@ -1,5 +1,5 @@
 // The core of a network.
-ghost use Rattle.std.specs.Prelude.{◌≡◌, ◌≤◌, ◌++◌, ℕ, true, false, length, map, sum_by, IfOk};
+ghost use Rattle.std.specs.Prelude.{◌≡◌, ◌≤◌, ℕ, true, false, length, sum_by, IfOk};
 ghost use Rattle.ff_rec.specs.Weights.{Same};
 ghost use Rattle.ff_node.specs.Behaviour.{node_rejected};
 ghost use Rattle.ff_node.specs.Comb.{comb_node};
