@@ -1,6 +1,6 @@
 -- How the calling thread goes on: one stretch behind another.
 use Rattle.std.proofs.Common.{◌≡◌, ℕ, List, [], ◌∷◌, ◌++◌, refl, sym, ap, ◌∙◌, append_assoc, append-nil}
-use Rattle.std.specs.Prelude.{Option, None, Some, Result, Ok, Err, OnOk, OnErr}
+use Rattle.std.specs.Prelude.{Option, None, Some, Result, Ok, Err}
 use Rattle.std.proofs.KnownBytes.{Appends-nil, Appends-trans}
 use Rattle.std.proofs.lemmas.Grind.{flat_map-append}
 use Rattle.ff_rec.specs.Lines.{Rec, line_of, text}
@@ -8,8 +8,11 @@ use Rattle.ff_rec.specs.Streams.{items}
 use Rattle.ff_rec.specs.declared.msg.Msg.TheVariants.{Item, Mark, Pick, Eos, Abort}
 use Rattle.ff_node.specs.Runs.{Message}
 use Rattle.ff_stream.specs.Texts.{Writes, WritesSome}
+use Rattle.ff_stream.specs.Works.{halt_count}
+use Rattle.ff_stream.specs.declared.fault.Halt.{Halt}
+use Rattle.ff_stream.specs.declared.fault.Halt.TheVariants.{Write, NoMemory}
 use Rattle.ff_unit.specs.MessageLaws.{items-append}
-use Rattle.ff_engine.specs.Callers.{CallerState, Moves, Breaks, SameRings, TakesMore, Receives, Feeds}
+use Rattle.ff_engine.specs.Callers.{CallerState, Moves, Breaks, SameRings, GoesOn, TakesMore, Receives, Feeds}
 
 -- the rings stay over two stretches
 pub SameRings-refl : (c : CallerState) → SameRings c c
@@ -151,10 +154,49 @@ Moves-fed c e m t fed = record {
 }
 
 -- a stretch behind which a call goes on, or breaks off
-pub OnOk-Moves : {A E : Type 0} (answer : Result A E) (c d e : CallerState) (t t' t'' : Option (List ℕ)) → Moves c d t t' → OnOk answer (Moves d e t' t'') → OnOk answer (Moves c e t t'')
-OnOk-Moves (Ok a) c d e t t' t'' first second = Moves-trans c d e t t' t'' first second
-OnOk-Moves (Err fault) c d e t t' t'' first second = tt
+pub GoesOn-behind : {A : Type 0} (answer : Result A Halt) (c d e : CallerState) (t t' t'' : Option (List ℕ)) (n n' n'' : ℕ) → Moves c d t t' → SameRings c d → n' ≡ n
+    → GoesOn d answer e t' t'' n' n'' → GoesOn c answer e t t'' n n''
+GoesOn-behind {A} (Ok a) c d e t t' t'' n n' n'' moves rings counts goes = record {
+  moves = Moves-trans c d e t t' t'' moves goes.moves;
+  breaks = tt;
+  rings = SameRings-trans c d e rings goes.rings;
+  counts = goes.counts ∙ counts;
+}
+GoesOn-behind {A} (Err halt) c d e t t' t'' n n' n'' moves rings counts goes = record {
+  moves = tt;
+  breaks = Breaks-behind c d e t t' t'' moves goes.breaks;
+  rings = SameRings-trans c d e rings goes.rings;
+  counts = goes.counts ∙ ap (λ k. halt_count {A = A} k (Err halt)) counts;
+}
 
-pub OnErr-Breaks : {A E : Type 0} (answer : Result A E) (c d e : CallerState) (t t' t'' : Option (List ℕ)) → Moves c d t t' → OnErr answer (Breaks d e t' t'') → OnErr answer (Breaks c e t t'')
-OnErr-Breaks (Ok a) c d e t t' t'' first second = tt
-OnErr-Breaks (Err fault) c d e t t' t'' first second = Breaks-behind c d e t t' t'' first second
+-- and where it breaks off, so does the call that made it
+pub GoesOn-broken : {A B : Type 0} (halt : Halt) (c d e : CallerState) (t t' t'' : Option (List ℕ)) (n n' n'' : ℕ) → Moves c d t t' → SameRings c d → n' ≡ n
+    → GoesOn {A = A} d (Err halt) e t' t'' n' n'' → GoesOn {A = B} c (Err halt) e t t'' n n''
+GoesOn-broken {A} {B} Write c d e t t' t'' n n' n'' moves rings counts goes = record {
+  moves = tt;
+  breaks = Breaks-behind c d e t t' t'' moves goes.breaks;
+  rings = SameRings-trans c d e rings goes.rings;
+  counts = goes.counts ∙ ap (λ k. halt_count {A = B} k (Err Write)) counts;
+}
+GoesOn-broken {A} {B} NoMemory c d e t t' t'' n n' n'' moves rings counts goes = record {
+  moves = tt;
+  breaks = Breaks-behind c d e t t' t'' moves goes.breaks;
+  rings = SameRings-trans c d e rings goes.rings;
+  counts = goes.counts ∙ counts;
+}
+
+-- and more is taken of which nothing is shown
+pub GoesOn-more : {A B : Type 0} (halt : Halt) (c d e : CallerState) (t t' : Option (List ℕ)) (n n' : ℕ) → GoesOn {A = A} c (Err halt) d t t' n n' → TakesMore d e → SameRings d e
+    → GoesOn {A = B} c (Err halt) e t t' n n'
+GoesOn-more Write c d e t t' n n' goes more rings = record {
+  moves = tt;
+  breaks = Breaks-more c d e t t' goes.breaks more;
+  rings = SameRings-trans c d e goes.rings rings;
+  counts = goes.counts;
+}
+GoesOn-more NoMemory c d e t t' n n' goes more rings = record {
+  moves = tt;
+  breaks = Breaks-more c d e t t' goes.breaks more;
+  rings = SameRings-trans c d e goes.rings rings;
+  counts = goes.counts;
+}

@@ -1,13 +1,15 @@
 -- The calling thread's ends of a line of rings, and how it goes on.
-use Rattle.std.specs.Prelude.{◌≡◌, ℕ, List, [], ◌∷◌, ◌++◌, ◌⊎◌, Option, None, Some}
+use Rattle.std.specs.Prelude.{◌≡◌, ℕ, List, [], ◌∷◌, ◌++◌, ◌⊎◌, Option, None, Some, Result, OnOk, OnErr}
 use Rattle.std.specs.Io.KnownBytes.{Appends}
-use Rattle.ff_rec.specs.Lines.{Rec, text}
+use Rattle.ff_rec.specs.Lines.{text}
 use Rattle.ff_rec.specs.Streams.{items}
 use Rattle.ff_rec.specs.declared.msg.Msg.TheVariants.{Eos, Abort}
 use Rattle.ff_node.specs.Runs.{Message}
 use Rattle.ff_port.specs.declared.answers.End.{End}
 use Rattle.ff_ring.specs.Bundles.{EndsWith}
 use Rattle.ff_ring.specs.Names.{RingName}
+use Rattle.ff_stream.specs.Works.{halt_count}
+use Rattle.ff_stream.specs.declared.fault.Halt.{Halt}
 
 pub record CallerState : Type 0 where
   -- what it put on the first ring, and what it took from the last one
@@ -45,6 +47,13 @@ pub record Breaks (c c' : CallerState) (before now : Option (List ℕ)) : Type 0
   pub written : List ℕ
   pub taken : Appends before now written
   pub shows : (front : List ℕ) → Shows front c → (back : List ℕ) × (text (items c'.got) ≡ (front ++ written) ++ back)
+
+-- what came was shown, or the writing of it broke off, and the sink counts its fault
+pub record GoesOn {A : Type 0} (c : CallerState) (answer : Result A Halt) (c' : CallerState) (before now : Option (List ℕ)) (faults faults' : ℕ) : Type 0 where
+  pub moves : OnOk answer (Moves c c' before now)
+  pub breaks : OnErr answer (Breaks c c' before now)
+  pub rings : SameRings c c'
+  pub counts : faults' ≡ halt_count faults answer
 
 -- more was taken
 pub record TakesMore (c c' : CallerState) : Type 0 where

@@ -6,13 +6,14 @@ ghost use Rattle.ff_engine.specs.Callers.{EndsWithEos};
 
 mod feeding;
 mod showing;
+mod watching;
 
 use ff_port::{End, Inbox, Outbox};
 use ff_rec::{Msg, Record};
-use ff_ring::{Pause, RingIn, RingOut};
+use ff_ring::{Bell, Pause, RingIn, RingOut};
 use ff_stream::Text;
 use std::alloc::Global;
-use std::sync::Wait;
+use std::sync::{Arc, Wait};
 
 /// The ends that the calling thread has: it feeds the first ring, and writes the records that come over the last one.
 #[derive(Drop)]
@@ -20,6 +21,8 @@ pub(crate) struct Caller {
     first: RingOut<Record>,
     last: RingIn<Record>,
     pause: Pause,
+    // The bells of the units' threads.
+    bells: Vec<Arc<Bell, Global>>,
     // What came and isn't written yet.
     text: Text,
     // How the stream ended, once its end came. Nothing is taken then.
@@ -37,6 +40,7 @@ impl Caller {
         first: RingOut<Record>,
         last: RingIn<Record>,
         pause: Pause,
+        bells: Vec<Arc<Bell, Global>>,
     ) -> Caller
         ensures { caller_of result ≡ record {
           put = put_of first;
@@ -51,6 +55,7 @@ impl Caller {
             first,
             last,
             pause,
+            bells,
             text: Text::new(alloc),
             end: None,
         }
@@ -96,15 +101,13 @@ impl Caller {
         Some(m)
     }
 
-    /// A pause. Before it parks, it hands over what waits. It answers whether it parked.
-    pub(crate) fn rest<R: Wait>(&mut self, rt: &R) -> bool
+    /// A pause. Before it parks, it hands over what waits.
+    pub(crate) fn rest<R: Wait>(&mut self, rt: &R)
         ensures { caller_of self.new ≡ caller_of self.old }
     {
-        if self.pause.spin() {
-            return false;
+        if !self.pause.spin() {
+            self.first.flush();
+            self.pause.park(rt);
         }
-        self.first.flush();
-        self.pause.park(rt);
-        true
     }
 }

@@ -5,9 +5,9 @@ ghost use Rattle.ff_rec.specs.Streams.{IsOpen};
 ghost use Rattle.ff_rec.specs.declared.msg.Msg.TheVariants.{Eos};
 ghost use Rattle.ff_stream.specs.Endings.{output_count};
 ghost use Rattle.ff_stream.specs.Jobs.{Job};
-ghost use Rattle.ff_stream.specs.Works.{Ends, IsOpen as IsOpenRun, halt_count};
+ghost use Rattle.ff_stream.specs.Works.{Ends, IsOpen as IsOpenRun};
 ghost use Rattle.ff_stream.specs.declared.fault.Halt.{Halt};
-ghost use Rattle.ff_engine.specs.Callers.{Moves, Breaks, SameRings, EndsOnce};
+ghost use Rattle.ff_engine.specs.Callers.{GoesOn, EndsOnce};
 ghost use Rattle.ff_engine.specs.Conclusions.{Concludes};
 ghost use Rattle.ff_engine.specs.Lines.{Linked};
 ghost use Rattle.ff_engine.specs.Networks.{HasFed, HasStopped, JoinsOnly, WorkedThrough};
@@ -100,13 +100,11 @@ fn conclude<U: Unit>(
 fn close<R: Wait, O: Sink>(caller: &mut Caller, rt: &R, sink: &mut O) -> Result<(), Halt>
     requires { IsOpen (caller_of caller.old).put }
     ensures put { OnOk result ((caller_of caller.new).put ≡ (caller_of caller.old).put ++ Eos ∷ []) }
-    ensures moves { OnOk result (Moves (caller_of caller.old) (caller_of caller.new) (O.taken sink.old) (O.taken sink.new)) }
     ensures written { OnOk result ((caller_of caller.new).text ≡ []) }
     ensures end { OnOk result ((caller_of caller.new).end ≢ None) }
     ensures ends { OnErr result (EndsOnce (caller_of caller.old).put (caller_of caller.new).put) }
-    ensures breaks { OnErr result (Breaks (caller_of caller.old) (caller_of caller.new) (O.taken sink.old) (O.taken sink.new)) }
-    ensures rings { SameRings (caller_of caller.old) (caller_of caller.new) }
-    ensures counts { O.faults sink.new ≡ halt_count (O.faults sink.old) result }
+    ensures goes { GoesOn (caller_of caller.old) result (caller_of caller.new)
+        (O.taken sink.old) (O.taken sink.new) (O.faults sink.old) (O.faults sink.new) }
 {
     match caller.feed(rt, Msg::Eos, sink) {
         Ok(()) => match caller.drain(rt, sink) {

@@ -6,20 +6,20 @@ ghost use Rattle.ff_engine.specs.Lines.{Linked};
 
 use crate::NetJob;
 use ff_rec::{NoMemory, Record};
-use ff_ring::{Pause, RingIn, RingOut, ring};
+use ff_ring::{Bell, Pause, RingIn, RingOut, ring};
 use ff_unit::Unit;
 use std::alloc::Global;
 use std::sync::Arc;
-use std::thread::Parker;
 
 /// Jobs of these units one behind the other, over rings of this capacity, with the ends before the first and behind the
-/// last. `own` is the parker of the thread that has these ends.
+/// last. `bells` are those of the jobs' threads, and `own` that of the thread that has these ends.
 pub(crate) fn make_line<U: Unit, R: Clone + Drop>(
     alloc: Global,
     units: Vec<U>,
     cap: usize,
     rt: &R,
-    own: &Arc<Parker, Global>,
+    bells: &[Arc<Bell, Global>],
+    own: &Arc<Bell, Global>,
 ) -> Result<(RingOut<Record>, Vec<NetJob<U, R>>, RingIn<Record>), NoMemory>
     requires low { 1 ≤ cap }
     requires high { cap ≤ 4096 }
@@ -30,12 +30,11 @@ pub(crate) fn make_line<U: Unit, R: Clone + Drop>(
     ensures put { IfOk result (λ r. put_of r.0 ≡ []) }
     ensures got { IfOk result (λ r. got_of r.2 ≡ []) }
 {
-    let count = units.len();
-    let mut jobs = Vec::with_capacity(alloc, count)?;
-    let mut bell = bell_of(alloc, count == 0, own)?;
+    let mut jobs = Vec::with_capacity(alloc, units.len())?;
+    let mut bell = bell_at(bells, 0, own)?;
     let (first, mut last) = ring(alloc, cap, Arc::try_clone(own)?, Arc::try_clone(&bell)?)?;
     for unit in units {
-        let next = bell_of(alloc, jobs.len() + 1 == count, own)?;
+        let next = bell_at(bells, jobs.len() + 1, own)?;
         let (job, behind) = job_behind(alloc, unit, cap, rt, last, bell, &next)?;
         jobs.push(job)?;
         last = behind;
@@ -44,25 +43,25 @@ pub(crate) fn make_line<U: Unit, R: Clone + Drop>(
     Ok((first, jobs, last))
 }
 
-// The parker of the thread behind some jobs: that of one job more, or behind the last job the calling thread's own.
-fn bell_of(
-    alloc: Global,
-    last: bool,
-    own: &Arc<Parker, Global>,
-) -> Result<Arc<Parker, Global>, NoMemory> {
-    if last {
-        Ok(Arc::try_clone(own)?)
-    } else {
-        new_bell(alloc)
+// The bell of the job's thread with this number, or behind the last job that of the calling thread.
+fn bell_at(
+    bells: &[Arc<Bell, Global>],
+    number: usize,
+    own: &Arc<Bell, Global>,
+) -> Result<Arc<Bell, Global>, NoMemory> {
+    Ok(Arc::try_clone(bells.get(number).unwrap_or(own))?)
+}
+
+/// Bells for so many threads.
+pub(crate) fn make_bells(alloc: Global, count: usize) -> Result<Vec<Arc<Bell, Global>>, NoMemory> {
+    let mut bells = Vec::with_capacity(alloc, count)?;
+    for _ in 0..count {
+        bells.push(Arc::new(alloc, Bell::new())?)?;
     }
+    Ok(bells)
 }
 
-/// The parker of a thread.
-pub(crate) fn new_bell(alloc: Global) -> Result<Arc<Parker, Global>, NoMemory> {
-    Ok(Arc::new(alloc, Parker::new())?)
-}
-
-// A job that reads this ring, and the reading end of the ring that it writes. `bell` is the parker of its thread, and
+// A job that reads this ring, and the reading end of the ring that it writes. `bell` is that of its thread, and
 // `next` that of the thread behind it.
 fn job_behind<U: Unit, R: Clone + Drop>(
     alloc: Global,
@@ -70,8 +69,8 @@ fn job_behind<U: Unit, R: Clone + Drop>(
     cap: usize,
     rt: &R,
     inn: RingIn<Record>,
-    bell: Arc<Parker, Global>,
-    next: &Arc<Parker, Global>,
+    bell: Arc<Bell, Global>,
+    next: &Arc<Bell, Global>,
 ) -> Result<(NetJob<U, R>, RingIn<Record>), NoMemory>
     requires low { 1 ≤ cap }
     requires high { cap ≤ 4096 }

@@ -11,17 +11,17 @@ use crate::NetJob;
 use crate::caller::Caller;
 use crate::crew::Crew;
 use crate::laws::units_keep_laws;
-use crate::making::{make_line, new_bell};
+use crate::making::{make_bells, make_line};
 use crate::prepared::Prepared;
 use ff_net::Checked;
 use ff_node::{Comb, Node};
 use ff_rec::NoMemory;
-use ff_ring::Pause;
+use ff_ring::{Bell, Pause};
 use ff_spawn::{Denial, RunningJobs, Spawner};
 use ff_steps::make_units;
 use ff_unit::{Stage, Unit};
 use std::alloc::Global;
-use std::sync::Wait;
+use std::sync::{Arc, Wait};
 
 /// Takes all memory that the threads of a network need to be started and joined.
 pub(crate) fn prepare<N: Node + Send + 'static, R: Wait + Clone + Drop + Send + 'static>(
@@ -40,12 +40,13 @@ pub(crate) fn prepare<N: Node + Send + 'static, R: Wait + Clone + Drop + Send + 
     units_keep_laws::<N>();
     let units = make_units(alloc, checked, keep)?;
     let room = Vec::with_capacity(alloc, units.len())?;
-    let own = new_bell(alloc)?;
-    let (first, jobs, last) = make_line(alloc, units, cap as usize, rt, &own)?;
+    let bells = make_bells(alloc, units.len())?;
+    let own = Arc::new(alloc, Bell::new())?;
+    let (first, jobs, last) = make_line(alloc, units, cap as usize, rt, &bells, &own)?;
     let waits = rt.clone()?;
     let running = RunningJobs::with_capacity(alloc, jobs.len())?;
     Ok(Prepared {
-        caller: Caller::new(alloc, first, last, Pause::new(own)),
+        caller: Caller::new(alloc, first, last, Pause::new(own), bells),
         jobs,
         units: room,
         running,

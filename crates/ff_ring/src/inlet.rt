@@ -4,19 +4,19 @@ ghost use Rattle.std.proofs.Common.{deque_capacity};
 ghost use Rattle.rtrb.specs.Ring.{known_items};
 ghost use Rattle.ff_ring.specs.Inlets.{GoesBack};
 
+use crate::Bell;
 use crate::bundle::{Bundle, Emptied, Filled};
 use rtrb::{Consumer, Producer, PushError};
 use std::alloc::Global;
 use std::mem;
 use std::sync::Arc;
-use std::thread::Parker;
 
 /// The reader's ends of both ways, and the bell of the writer's thread.
 #[derive(Drop)]
 pub(crate) struct Inlet<T> {
     pub(crate) end: Consumer<Bundle<T>, Global, Filled>,
     pub(crate) spares: Producer<Bundle<T>, Global, Emptied>,
-    pub(crate) bell: Arc<Parker, Global>,
+    pub(crate) bell: Arc<Bell, Global>,
 }
 
 impl<T> Inlet<T> {
@@ -32,7 +32,7 @@ impl<T> Inlet<T> {
         let filled = self.end.pop_known();
         let emptied = mem::replace(bundle, filled);
         give_back(&mut self.spares, emptied);
-        self.bell.unpark();
+        self.bell.ring();
     }
 }
 

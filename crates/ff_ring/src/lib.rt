@@ -2,6 +2,7 @@
 //! one.
 #![tactic(auto)]
 
+mod bell;
 mod bundle;
 mod inlet;
 mod making;
@@ -11,6 +12,7 @@ mod ring_in;
 mod ring_out;
 mod settling;
 
+pub use bell::Bell;
 pub use making::ring;
 pub use pause::Pause;
 pub use ring_in::RingIn;

@@ -8,25 +8,24 @@ ghost use Rattle.ff_ring.specs.Sizes.{bundle_size, bundle_count};
 use crate::bundle::{Bundle, Emptied, Filled};
 use crate::inlet::Inlet;
 use crate::outlet::Outlet;
-use crate::{RingIn, RingOut};
+use crate::{Bell, RingIn, RingOut};
 use ff_rec::NoMemory;
 use rtrb::{Consumer, Producer, RingBuffer};
 use std::alloc::Global;
 use std::collections::VecDeque;
 use std::sync::Arc;
-use std::thread::Parker;
 
 // The most messages of a bundle.
 const FULL_BUNDLE: usize = 32;
 
-/// The two ends of a ring that holds about `cap` messages, each with the parker of the other's thread. All memory
+/// The two ends of a ring that holds about `cap` messages, each with the bell of the other's thread. All memory
 /// that the ring will ever need is taken here. A ring of one slot holds one message; one of more may hold a bundle
 /// more at each end.
 pub fn ring<T: Drop>(
     alloc: Global,
     cap: usize,
-    writer: Arc<Parker, Global>,
-    reader: Arc<Parker, Global>,
+    writer: Arc<Bell, Global>,
+    reader: Arc<Bell, Global>,
 ) -> Result<(RingOut<T>, RingIn<T>), NoMemory>
     requires some { 1 ≤ cap }
     requires most { cap ≤ 4097 }

@@ -2,19 +2,19 @@
 ghost use Rattle.std.specs.Prelude.{◌≡◌, ◌<◌, IsTrue, IsFalse, ◌↔◌};
 ghost use Rattle.std.proofs.Common.{deque_len, deque_capacity};
 
+use crate::Bell;
 use crate::bundle::{Bundle, Emptied, Filled};
 use rtrb::{Consumer, Producer};
 use std::alloc::Global;
 use std::mem;
 use std::sync::Arc;
-use std::thread::Parker;
 
 /// The writer's ends of both ways, and the bell of the reader's thread.
 #[derive(Drop)]
 pub(crate) struct Outlet<T> {
     pub(crate) end: Producer<Bundle<T>, Global, Filled>,
     pub(crate) spares: Consumer<Bundle<T>, Global, Emptied>,
-    pub(crate) bell: Arc<Parker, Global>,
+    pub(crate) bell: Arc<Bell, Global>,
 }
 
 impl<T> Outlet<T> {
@@ -35,7 +35,7 @@ impl<T> Outlet<T> {
         };
         let filled = mem::replace(bundle, spare);
         self.end.push_reserved(filled);
-        self.bell.unpark();
+        self.bell.ring();
         true
     }
 

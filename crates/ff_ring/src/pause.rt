@@ -1,10 +1,10 @@
 // How a thread waits that found nothing to do.
 ghost use Rattle.std.specs.Prelude.{◌≤◌};
 
+use crate::Bell;
 use std::alloc::Global;
 use std::hint;
 use std::sync::{Arc, Wait};
-use std::thread::Parker;
 use std::time::Duration;
 
 // The most spins between two tries. More help small rings on a quiet machine, and harm on a busy one.
@@ -15,32 +15,44 @@ const FIRST_PARK: u64 = 2;
 
 const LONGEST_PARK: u64 = 50;
 
+// How long it dozes at first, in microseconds, and at most. What it waits for may ring no bell.
+const FIRST_DOZE: u64 = 100;
+
+const LONGEST_DOZE: u64 = 2000;
+
 /// The pauses of a thread between its tries, while it finds nothing to do: 1, 2, 4, .. 64 spins, which cost no more
 /// than a message's way, and then parks of 2, 4, .. 50 milliseconds, which the other ends of its rings cut short. It
 /// never yields its time slice, since a busy machine gives the whole slice away.
 #[derive(Drop)]
 pub struct Pause {
-    parker: Arc<Parker, Global>,
+    bell: Arc<Bell, Global>,
     // How many spins the next pause has.
     spins: u32,
+    // Whether it lay down since something was done and since it last slept.
+    lies: bool,
     // How long the next park may last, in milliseconds.
     millis: u64,
+    // How long the next doze may last, in microseconds.
+    micros: u64,
     ghost few_spins: { spins ≤ 128 },
     ghost short: { millis ≤ 50 },
+    ghost shorter: { micros ≤ 2000 },
 }
 
 impl Pause {
-    ghost use Rattle.std.specs.Prelude.{◌≡◌, ◌*◌, min, ◌↔◌, IsTrue, if◌then◌else◌};
-    ghost use Rattle.ff_ring.specs.Pauses.{IsFresh, spins_of, millis_of};
+    ghost use Rattle.std.specs.Prelude.{◌≡◌, ◌*◌, min, not, true, false, ◌↔◌, IsTrue, if◌then◌else◌};
+    ghost use Rattle.ff_ring.specs.Pauses.{IsFresh, spins_of, lies_down, millis_of, micros_of};
 
-    /// The pauses of the thread that parks on this parker. The ends of its rings are given it too.
-    pub fn new(parker: Arc<Parker, Global>) -> Pause
+    /// The pauses of the thread with this bell. The other ends of its rings are given it too.
+    pub fn new(bell: Arc<Bell, Global>) -> Pause
         ensures { IsFresh result }
     {
         Pause {
-            parker,
+            bell,
             spins: 1,
+            lies: false,
             millis: FIRST_PARK,
+            micros: FIRST_DOZE,
         }
     }
 
@@ -48,17 +60,23 @@ impl Pause {
     pub fn reset(&mut self)
         ensures { IsFresh self.new }
     {
+        if self.lies {
+            self.bell.works();
+        }
         self.spins = 1;
+        self.lies = false;
         self.millis = FIRST_PARK;
+        self.micros = FIRST_DOZE;
     }
 
-    /// Spins, twice as long as the time before, and answers whether it did. Where it didn't, hand over what waits,
-    /// and park.
+    /// Spins, twice as long as the time before, and answers whether it did. Where it didn't, lie down.
     pub fn spin(&mut self) -> bool
         ensures answer { IsTrue result ↔ (spins_of self.old ≤ 64) }
         ensures spins { spins_of self.new
             ≡ (if result then 2 * spins_of self.old else spins_of self.old) }
+        ensures lies { lies_down self.new ≡ lies_down self.old }
         ensures millis { millis_of self.new ≡ millis_of self.old }
+        ensures micros { micros_of self.new ≡ micros_of self.old }
     {
         if self.spins > MOST_SPINS {
             return false;
@@ -70,13 +88,45 @@ impl Pause {
         true
     }
 
-    /// Parks until a bell rings or the time is over. The next park may last longer.
+    /// Lies down, and answers whether it did. Then hand over what waits, and try once more. Where it already lay, and
+    /// so that was done, park.
+    pub fn lie_down(&mut self) -> bool
+        ensures answer { result ≡ not (lies_down self.old) }
+        ensures spins { spins_of self.new ≡ spins_of self.old }
+        ensures lies { lies_down self.new ≡ true }
+        ensures millis { millis_of self.new ≡ millis_of self.old }
+        ensures micros { micros_of self.new ≡ micros_of self.old }
+    {
+        if self.lies {
+            return false;
+        }
+        self.bell.tries();
+        self.lies = true;
+        true
+    }
+
+    /// Parks until the bell rings or the time is over. The next park may last longer. Where it lay down before, other
+    /// threads see it rest.
     pub fn park<R: Wait>(&mut self, rt: &R)
         ensures spins { spins_of self.new ≡ spins_of self.old }
+        ensures lies { lies_down self.new ≡ false }
         ensures millis { millis_of self.new ≡ min 50 (2 * millis_of self.old) }
+        ensures micros { micros_of self.new ≡ micros_of self.old }
     {
-        self.parker
-            .park_timeout(rt, Duration::from_millis(self.millis));
+        self.bell.sleep(rt, Duration::from_millis(self.millis));
+        self.lies = false;
         self.millis = (2 * self.millis).min(LONGEST_PARK);
+    }
+
+    /// Parks for 100, 200, .. 2,000 microseconds at most, as where no bell need ring.
+    pub fn doze<R: Wait>(&mut self, rt: &R)
+        ensures spins { spins_of self.new ≡ spins_of self.old }
+        ensures lies { lies_down self.new ≡ false }
+        ensures millis { millis_of self.new ≡ millis_of self.old }
+        ensures micros { micros_of self.new ≡ min 2000 (2 * micros_of self.old) }
+    {
+        self.bell.sleep(rt, Duration::from_micros(self.micros));
+        self.lies = false;
+        self.micros = (2 * self.micros).min(LONGEST_DOZE);
     }
 }

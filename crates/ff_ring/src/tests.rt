@@ -3,13 +3,12 @@ ghost use Rattle.std.specs.Prelude.{◌≡◌, ◌≤◌, [], IfOk};
 ghost use Rattle.ff_rec.specs.Streams.{IsOpen};
 ghost use Rattle.ff_ring.specs.Ends.{put_of, written_ring, read_ring};
 
-use crate::{Pause, RingIn, RingOut, ring, settle};
+use crate::{Bell, Pause, RingIn, RingOut, ring, settle};
 use ff_port::{Inbox, Outbox, Put};
 use ff_rec::{Msg, NoMemory};
 use std::alloc::Global;
 use std::sync::Arc;
 use std::test::Fail;
-use std::thread::Parker;
 
 mod threads;
 
@@ -20,8 +19,8 @@ fn fresh(alloc: Global, cap: usize) -> Result<(RingOut<u64>, RingIn<u64>), NoMem
     ensures pair { IfOk result (λ r. read_ring r.1 ≡ written_ring r.0) }
     ensures put { IfOk result (λ r. put_of r.0 ≡ []) }
 {
-    let writer = Arc::new(alloc, Parker::new())?;
-    let reader = Arc::new(alloc, Parker::new())?;
+    let writer = Arc::new(alloc, Bell::new())?;
+    let reader = Arc::new(alloc, Bell::new())?;
     ring(alloc, cap, writer, reader)
 }
 
@@ -168,17 +167,24 @@ fn settling_tells_what_is_left(rt: HostRuntime) -> Result<(), Fail> {
     Ok(())
 }
 
-// Seven pauses with spins, and then parks, which end by themselves.
+// Seven pauses with spins, one more try, and then a park, which ends by itself. Nobody sees the thread rest while it isn't
+// parked.
 #[test]
 fn pauses_spin_and_park(rt: HostRuntime) -> Result<(), Fail> {
-    let mut pause = Pause::new(Arc::new(rt.alloc(), Parker::new())?);
+    let bell = Arc::new(rt.alloc(), Bell::new())?;
+    let mut pause = Pause::new(Arc::try_clone(&bell)?);
     for _ in 0..2 {
         for _ in 0..7 {
             assert!(rt; pause.spin());
         }
-        assert!(rt; !pause.spin());
         for _ in 0..6 {
+            assert!(rt; !pause.spin());
+            assert!(rt; pause.lie_down());
+            assert!(rt; !pause.lie_down());
+            assert!(rt; !bell.notes_rest());
             pause.park(&rt);
+            assert!(rt; !bell.notes_rest());
+            pause.doze(&rt);
         }
         pause.reset();
     }

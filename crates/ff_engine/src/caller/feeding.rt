@@ -2,8 +2,7 @@
 ghost use Rattle.std.specs.Prelude.{◌≡◌, ◌++◌, ◌∷◌, [], OnOk, OnErr};
 ghost use Rattle.ff_rec.specs.Streams.{IsOpen};
 ghost use Rattle.ff_rec.specs.declared.msg.Msg.TheVariants.{Abort};
-ghost use Rattle.ff_stream.specs.Works.{halt_count};
-ghost use Rattle.ff_engine.specs.Callers.{Moves, Breaks, SameRings, TakesMore, Feeds};
+ghost use Rattle.ff_engine.specs.Callers.{GoesOn, SameRings, TakesMore, Feeds};
 ghost use Rattle.ff_engine.specs.Seen.{caller_of};
 
 use crate::caller::Caller;
@@ -23,11 +22,9 @@ impl Caller {
     ) -> Result<(), Halt>
         requires { IsOpen (caller_of self.old).put }
         ensures put { OnOk result ((caller_of self.new).put ≡ (caller_of self.old).put ++ m ∷ []) }
-        ensures moves { OnOk result (Moves (caller_of self.old) (caller_of self.new) (O.taken sink.old) (O.taken sink.new)) }
         ensures stays { OnErr result ((caller_of self.new).put ≡ (caller_of self.old).put) }
-        ensures breaks { OnErr result (Breaks (caller_of self.old) (caller_of self.new) (O.taken sink.old) (O.taken sink.new)) }
-        ensures rings { SameRings (caller_of self.old) (caller_of self.new) }
-        ensures counts { O.faults sink.new ≡ halt_count (O.faults sink.old) result }
+        ensures goes { GoesOn (caller_of self.old) result (caller_of self.new)
+            (O.taken sink.old) (O.taken sink.new) (O.faults sink.old) (O.faults sink.new) }
     {
         match self.try_feed(m) {
             None => Ok(()),
@@ -56,11 +53,9 @@ impl Caller {
     ) -> Result<(), Halt>
         requires { IsOpen (caller_of self.old).put }
         ensures put { OnOk result ((caller_of self.new).put ≡ (caller_of self.old).put ++ m ∷ []) }
-        ensures moves { OnOk result (Moves (caller_of self.old) (caller_of self.new) (O.taken sink.old) (O.taken sink.new)) }
         ensures stays { OnErr result ((caller_of self.new).put ≡ (caller_of self.old).put) }
-        ensures breaks { OnErr result (Breaks (caller_of self.old) (caller_of self.new) (O.taken sink.old) (O.taken sink.new)) }
-        ensures rings { SameRings (caller_of self.old) (caller_of self.new) }
-        ensures counts { O.faults sink.new ≡ halt_count (O.faults sink.old) result }
+        ensures goes { GoesOn (caller_of self.old) result (caller_of self.new)
+            (O.taken sink.old) (O.taken sink.new) (O.faults sink.old) (O.faults sink.new) }
     {
         self.pause.reset();
         let mut m = m;

@@ -1,7 +1,6 @@
 // What comes over the last ring.
-ghost use Rattle.std.specs.Prelude.{◌≡◌, ◌≢◌, [], None, OnOk, OnErr};
-ghost use Rattle.ff_stream.specs.Works.{halt_count};
-ghost use Rattle.ff_engine.specs.Callers.{Moves, Breaks, SameRings, TakesMore};
+ghost use Rattle.std.specs.Prelude.{◌≡◌, ◌≢◌, [], None, OnOk};
+ghost use Rattle.ff_engine.specs.Callers.{GoesOn, SameRings, TakesMore};
 ghost use Rattle.ff_engine.specs.Seen.{caller_of};
 
 use crate::caller::Caller;
@@ -14,21 +13,14 @@ use std::sync::Wait;
 /// How many messages are taken at once before the first ring is tried again.
 const MOST_AT_ONCE: u32 = 1024;
 
-/// How many parks in a row bring nothing before the next read.
-const QUIET_PARKS: u32 = 2;
-
 impl Caller {
     /// Shows all that comes up to the end, and writes the rest of the text.
     pub(crate) fn drain<R: Wait, O: Sink>(&mut self, rt: &R, sink: &mut O) -> Result<(), Halt>
         ensures put { (caller_of self.new).put ≡ (caller_of self.old).put }
-        ensures moves { OnOk result
-            (Moves (caller_of self.old) (caller_of self.new) (O.taken sink.old) (O.taken sink.new)) }
+        ensures goes { GoesOn (caller_of self.old) result (caller_of self.new)
+            (O.taken sink.old) (O.taken sink.new) (O.faults sink.old) (O.faults sink.new) }
         ensures written { OnOk result ((caller_of self.new).text ≡ []) }
         ensures end { OnOk result ((caller_of self.new).end ≢ None) }
-        ensures breaks { OnErr result
-            (Breaks (caller_of self.old) (caller_of self.new) (O.taken sink.old) (O.taken sink.new)) }
-        ensures rings { SameRings (caller_of self.old) (caller_of self.new) }
-        ensures counts { O.faults sink.new ≡ halt_count (O.faults sink.old) result }
     {
         for _ in rt.forever() {
             if self.end.is_some() {
@@ -39,70 +31,78 @@ impl Caller {
         self.write_held(sink)
     }
 
-    /// Hands over what waits, shows what comes until nothing has come for some milliseconds, and writes it.
+    /// Hands over what waits, shows what comes until all units rest, and writes it.
     pub(crate) fn show<R: Wait, O: Sink>(&mut self, rt: &R, sink: &mut O) -> Result<(), Halt>
         ensures put { (caller_of self.new).put ≡ (caller_of self.old).put }
-        ensures moves { OnOk result
-            (Moves (caller_of self.old) (caller_of self.new) (O.taken sink.old) (O.taken sink.new)) }
-        ensures breaks { OnErr result
-            (Breaks (caller_of self.old) (caller_of self.new) (O.taken sink.old) (O.taken sink.new)) }
-        ensures rings { SameRings (caller_of self.old) (caller_of self.new) }
-        ensures counts { O.faults sink.new ≡ halt_count (O.faults sink.old) result }
+        ensures goes { GoesOn (caller_of self.old) result (caller_of self.new)
+            (O.taken sink.old) (O.taken sink.new) (O.faults sink.old) (O.faults sink.new) }
+        ensures written { OnOk result ((caller_of self.new).text ≡ []) }
     {
-        self.show_till_quiet(rt, sink)?;
+        self.show_till_still(rt, sink)?;
         self.write_held(sink)
     }
 
-    // Shows what comes until nothing has come for some milliseconds.
-    fn show_till_quiet<R: Wait, O: Sink>(&mut self, rt: &R, sink: &mut O) -> Result<(), Halt>
+    // Shows what comes until all units rest and nothing is left. There is no limit to that: a unit that works is waited
+    // for, since the next read may block for long, and what the unit sends is to be shown before.
+    fn show_till_still<R: Wait, O: Sink>(&mut self, rt: &R, sink: &mut O) -> Result<(), Halt>
         ensures put { (caller_of self.new).put ≡ (caller_of self.old).put }
-        ensures moves { OnOk result
-            (Moves (caller_of self.old) (caller_of self.new) (O.taken sink.old) (O.taken sink.new)) }
-        ensures breaks { OnErr result
-            (Breaks (caller_of self.old) (caller_of self.new) (O.taken sink.old) (O.taken sink.new)) }
-        ensures rings { SameRings (caller_of self.old) (caller_of self.new) }
-        ensures counts { O.faults sink.new ≡ halt_count (O.faults sink.old) result }
+        ensures goes { GoesOn (caller_of self.old) result (caller_of self.new)
+            (O.taken sink.old) (O.taken sink.new) (O.faults sink.old) (O.faults sink.new) }
     {
         self.pause.reset();
-        let mut quiet = 0;
         for _ in rt.forever() {
-            if quiet >= QUIET_PARKS || self.end.is_some() {
-                break;
+            let still = self.is_still();
+            if self.show_some(rt, still, sink)? {
+                return Ok(());
             }
-            let parked = self.turn(rt, sink)?;
-            quiet = if parked { quiet + 1 } else { 0 };
         }
-        Ok(())
+        unreachable!()
     }
 
-    /// Shows what has come. Where nothing has, it pauses. It answers whether it parked.
-    pub(crate) fn turn<R: Wait, O: Sink>(&mut self, rt: &R, sink: &mut O) -> Result<bool, Halt>
+    // Shows what has come, and answers whether that was all: whether nothing had come, and nothing comes any more. Where
+    // something may, it pauses.
+    fn show_some<R: Wait, O: Sink>(
+        &mut self,
+        rt: &R,
+        still: bool,
+        sink: &mut O,
+    ) -> Result<bool, Halt>
         ensures put { (caller_of self.new).put ≡ (caller_of self.old).put }
-        ensures moves { OnOk result
-            (Moves (caller_of self.old) (caller_of self.new) (O.taken sink.old) (O.taken sink.new)) }
-        ensures breaks { OnErr result
-            (Breaks (caller_of self.old) (caller_of self.new) (O.taken sink.old) (O.taken sink.new)) }
-        ensures rings { SameRings (caller_of self.old) (caller_of self.new) }
-        ensures counts { O.faults sink.new ≡ halt_count (O.faults sink.old) result }
+        ensures goes { GoesOn (caller_of self.old) result (caller_of self.new)
+            (O.taken sink.old) (O.taken sink.new) (O.faults sink.old) (O.faults sink.new) }
     {
         if self.take_ready(sink)? {
             self.pause.reset();
             return Ok(false);
         }
-        Ok(self.rest(rt))
+        if still || self.end.is_some() {
+            return Ok(true);
+        }
+        self.watch(rt);
+        Ok(false)
+    }
+
+    /// Shows what has come. Where nothing has, it pauses.
+    pub(crate) fn turn<R: Wait, O: Sink>(&mut self, rt: &R, sink: &mut O) -> Result<(), Halt>
+        ensures put { (caller_of self.new).put ≡ (caller_of self.old).put }
+        ensures goes { GoesOn (caller_of self.old) result (caller_of self.new)
+            (O.taken sink.old) (O.taken sink.new) (O.faults sink.old) (O.faults sink.new) }
+    {
+        if self.take_ready(sink)? {
+            self.pause.reset();
+        } else {
+            self.rest(rt);
+        }
+        Ok(())
     }
 
     // Writes what is held.
     fn write_held<O: Sink>(&mut self, sink: &mut O) -> Result<(), Halt>
         ensures put { (caller_of self.new).put ≡ (caller_of self.old).put }
-        ensures moves { OnOk result
-            (Moves (caller_of self.old) (caller_of self.new) (O.taken sink.old) (O.taken sink.new)) }
+        ensures goes { GoesOn (caller_of self.old) result (caller_of self.new)
+            (O.taken sink.old) (O.taken sink.new) (O.faults sink.old) (O.faults sink.new) }
         ensures written { OnOk result ((caller_of self.new).text ≡ []) }
         ensures end { (caller_of self.new).end ≡ (caller_of self.old).end }
-        ensures breaks { OnErr result
-            (Breaks (caller_of self.old) (caller_of self.new) (O.taken sink.old) (O.taken sink.new)) }
-        ensures rings { SameRings (caller_of self.old) (caller_of self.new) }
-        ensures counts { O.faults sink.new ≡ halt_count (O.faults sink.old) result }
     {
         Ok(self.text.write(sink)?)
     }
@@ -110,12 +110,8 @@ impl Caller {
     // Takes what has come and prints it. It answers whether something came.
     fn take_ready<O: Sink>(&mut self, sink: &mut O) -> Result<bool, Halt>
         ensures put { (caller_of self.new).put ≡ (caller_of self.old).put }
-        ensures moves { OnOk result
-            (Moves (caller_of self.old) (caller_of self.new) (O.taken sink.old) (O.taken sink.new)) }
-        ensures breaks { OnErr result
-            (Breaks (caller_of self.old) (caller_of self.new) (O.taken sink.old) (O.taken sink.new)) }
-        ensures rings { SameRings (caller_of self.old) (caller_of self.new) }
-        ensures counts { O.faults sink.new ≡ halt_count (O.faults sink.old) result }
+        ensures goes { GoesOn (caller_of self.old) result (caller_of self.new)
+            (O.taken sink.old) (O.taken sink.new) (O.faults sink.old) (O.faults sink.new) }
     {
         for taken in 0..MOST_AT_ONCE {
             if !self.receive(sink)? {
@@ -128,12 +124,8 @@ impl Caller {
     // Takes a message and prints what it carries. It answers whether one came.
     fn receive<O: Sink>(&mut self, sink: &mut O) -> Result<bool, Halt>
         ensures put { (caller_of self.new).put ≡ (caller_of self.old).put }
-        ensures moves { OnOk result
-            (Moves (caller_of self.old) (caller_of self.new) (O.taken sink.old) (O.taken sink.new)) }
-        ensures breaks { OnErr result
-            (Breaks (caller_of self.old) (caller_of self.new) (O.taken sink.old) (O.taken sink.new)) }
-        ensures rings { SameRings (caller_of self.old) (caller_of self.new) }
-        ensures counts { O.faults sink.new ≡ halt_count (O.faults sink.old) result }
+        ensures goes { GoesOn (caller_of self.old) result (caller_of self.new)
+            (O.taken sink.old) (O.taken sink.new) (O.faults sink.old) (O.faults sink.new) }
     {
         let Some(m) = self.take() else {
             return Ok(false);

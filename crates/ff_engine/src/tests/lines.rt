@@ -8,20 +8,19 @@ ghost use Rattle.ff_engine.specs.Jobs.{IsOpened};
 ghost use Rattle.ff_engine.specs.Lines.{Linked};
 
 use crate::NetJob;
-use crate::making::make_line;
+use crate::making::{make_bells, make_line};
 use crate::report::{all_ended_by_eos, report_of};
 use crate::settling::settle_line;
 use ff_node::{Class, Node};
 use ff_port::{Inbox, Msg, Outbox, Put};
 use ff_rec::{Field, NoMemory, Record};
-use ff_ring::RingOut;
+use ff_ring::{Bell, RingOut};
 use ff_spawn::Job;
 use ff_test_nodes::Silent;
 use ff_unit::{Stage, Unit};
 use std::alloc::Global;
 use std::sync::{Arc, Wait};
 use std::test::Fail;
-use std::thread::Parker;
 
 // Stages whose nodes send and reject nothing.
 fn silent_stages(alloc: Global, count: usize) -> Result<Vec<Stage<Silent>>, NoMemory>
@@ -64,8 +63,9 @@ fn a_line_comes_to_its_end(rt: HostRuntime) -> Result<(), Fail> {
     let alloc = rt.alloc();
     for count in [0, 1, 2, 5] {
         let stages = silent_stages(alloc, count)?;
-        let own = Arc::new(alloc, Parker::new())?;
-        let (mut first, mut jobs, mut last) = make_line(alloc, stages, 4, &rt, &own)?;
+        let bells = make_bells(alloc, count)?;
+        let own = Arc::new(alloc, Bell::new())?;
+        let (mut first, mut jobs, mut last) = make_line(alloc, stages, 4, &rt, &bells, &own)?;
         assert_eq!(rt; jobs.len(), count);
         if count > 0 {
             assert!(rt; puts_record(alloc, &mut first)?);

@@ -1,20 +1,26 @@
-// Two threads with the two ends of a ring, which park without a timeout: a bell that isn't rung would hang them.
+// Two threads with the two ends of a ring, which sleep without end: a bell that isn't rung would hang them.
 ghost use Rattle.std.specs.Prelude.{◌≡◌, ◌≤◌, [], IfOk};
 ghost use Rattle.ff_rec.specs.Streams.{IsOpen};
 ghost use Rattle.ff_ring.specs.Ends.{put_of, written_ring, read_ring};
 
 use super::puts;
-use crate::{RingIn, RingOut, ring, settle};
+use crate::{Bell, Pause, RingIn, RingOut, ring, settle};
 use ff_port::{Inbox, Outbox, Put};
 use ff_rec::{Msg, NoMemory};
 use std::alloc::Global;
 use std::sync::{Arc, Wait};
 use std::test::Fail;
-use std::thread;
-use std::thread::{Parker, Threads};
+use std::thread::Threads;
+use std::time::Duration;
+use std::{hint, thread};
+
+// Sleeps until the bell rings.
+fn sleeps(rt: &impl Wait, bell: &Bell) {
+    bell.sleep(rt, Duration::from_secs(u64::MAX));
+}
 
 // Puts the numbers below `count`, and Eos behind them.
-fn writes(rt: &impl Wait, mut out: RingOut<u64>, count: u64, bell: &Parker) -> RingOut<u64>
+fn writes(rt: &impl Wait, mut out: RingOut<u64>, count: u64, bell: &Bell) -> RingOut<u64>
     requires { IsOpen (put_of out) }
     ensures { written_ring result ≡ written_ring out }
 {
@@ -26,14 +32,14 @@ fn writes(rt: &impl Wait, mut out: RingOut<u64>, count: u64, bell: &Parker) -> R
         if puts(&mut out, next) {
             next += 1;
         } else {
-            bell.park(rt);
+            sleeps(rt, bell);
         }
     }
     ends(rt, out, bell)
 }
 
 // Puts Eos, and hands over what waits.
-fn ends(rt: &impl Wait, mut out: RingOut<u64>, bell: &Parker) -> RingOut<u64>
+fn ends(rt: &impl Wait, mut out: RingOut<u64>, bell: &Bell) -> RingOut<u64>
     requires { IsOpen (put_of out) }
     ensures { written_ring result ≡ written_ring out }
 {
@@ -41,26 +47,26 @@ fn ends(rt: &impl Wait, mut out: RingOut<u64>, bell: &Parker) -> RingOut<u64>
         if matches!(out.try_put(Msg::Eos), Put::Done) {
             break;
         }
-        bell.park(rt);
+        sleeps(rt, bell);
     }
     hands_over(rt, out, bell)
 }
 
 // Hands over what waits.
-fn hands_over(rt: &impl Wait, mut out: RingOut<u64>, bell: &Parker) -> RingOut<u64>
+fn hands_over(rt: &impl Wait, mut out: RingOut<u64>, bell: &Bell) -> RingOut<u64>
     ensures { written_ring result ≡ written_ring out }
 {
     for _ in rt.forever() {
         if out.flush() {
             break;
         }
-        bell.park(rt);
+        sleeps(rt, bell);
     }
     out
 }
 
 // Takes messages up to Eos, and tells how many numbers came in order, or the greatest number where one didn't.
-fn reads(rt: &impl Wait, mut inn: RingIn<u64>, bell: &Parker) -> (RingIn<u64>, u64)
+fn reads(rt: &impl Wait, mut inn: RingIn<u64>, bell: &Bell) -> (RingIn<u64>, u64)
     ensures { read_ring result.0 ≡ read_ring inn }
 {
     let mut next = 0u64;
@@ -68,7 +74,7 @@ fn reads(rt: &impl Wait, mut inn: RingIn<u64>, bell: &Parker) -> (RingIn<u64>, u
         match inn.try_take() {
             Some(Msg::Item(number)) => next = after(next, number),
             Some(_) => break,
-            None => bell.park(rt),
+            None => sleeps(rt, bell),
         }
     }
     (inn, next)
@@ -92,8 +98,8 @@ fn crosses<R: Threads + Wait + Sync>(
     requires some { 1 ≤ cap }
     requires most { cap ≤ 4097 }
 {
-    let writer = Arc::new(alloc, Parker::new())?;
-    let reader = Arc::new(alloc, Parker::new())?;
+    let writer = Arc::new(alloc, Bell::new())?;
+    let reader = Arc::new(alloc, Bell::new())?;
     let (out, inn) = ring(
         alloc,
         cap,
@@ -121,6 +127,55 @@ fn two_threads(rt: HostRuntime) -> Result<(), Fail> {
             let answer = crosses(&rt, rt.alloc(), cap, count)?;
             assert_eq!(rt; answer, (count, true), "at {cap}");
         }
+    }
+    Ok(())
+}
+
+// Takes one message, and pauses until it comes.
+fn waits(rt: &impl Wait, mut inn: RingIn<u64>, mut pause: Pause) -> bool {
+    for _ in rt.forever() {
+        if let Some(m) = inn.try_take() {
+            return matches!(m, Msg::Eos);
+        }
+        if !pause.spin() && !pause.lie_down() {
+            pause.park(rt);
+        }
+    }
+    unreachable!()
+}
+
+// Puts Eos once the other thread was seen to rest, and tells whether it is seen to rest after that.
+fn wakes(rt: &impl Wait, mut out: RingOut<u64>, other: &Bell) -> bool
+    requires { IsOpen (put_of out) }
+{
+    for _ in rt.forever() {
+        if other.notes_rest() && other.still_rests() {
+            break;
+        }
+        hint::spin_loop();
+    }
+    out.try_put(Msg::Eos);
+    other.notes_rest()
+}
+
+// A thread is seen to rest while it waits, and no longer once something was handed over to it.
+#[test]
+fn a_rest_is_seen(rt: HostRuntime) -> Result<(), Fail> {
+    let rt = &rt;
+    let alloc = rt.alloc();
+    for _ in 0..200 {
+        let writer = Arc::new(alloc, Bell::new())?;
+        let reader = Arc::new(alloc, Bell::new())?;
+        let pause = Pause::new(Arc::try_clone(&reader)?);
+        let (out, inn) = ring(alloc, 4, writer, Arc::try_clone(&reader)?)?;
+        let answers = thread::join(
+            rt,
+            move || -> bool
+                requires { IsOpen (put_of out) }
+            { wakes(rt, out, &reader) },
+            move || waits(rt, inn, pause),
+        );
+        assert_eq!(rt; answers, (false, true));
     }
     Ok(())
 }

@@ -22,7 +22,7 @@ returns-clause-ends g c =
     (c.join-units.ensures.got ∙ c.into_ends-first.ensures.got ∙ ap (λ s. s.got) c.hand_over.ensures) _ _
     shown.result c.end-end.result c.conclude.result c.conclude.ensures
     (λ eos. subst (λ s. EndsWithEos s.got) c.hand_over.ensures (c.end-end.ensures.eos eos))
-    shown.ensures.put shown.ensures.moves shown.ensures.written shown.ensures.ends shown.ensures.breaks
+    shown.ensures.put shown.ensures.goes.moves shown.ensures.written shown.ensures.ends shown.ensures.goes.breaks
 
 pub returns-clause-work : goal.returns-clause-work
 returns-clause-work g c =

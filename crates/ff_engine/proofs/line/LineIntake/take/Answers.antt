@@ -20,4 +20,4 @@ invariant_of-self g c = record {
 pub returns-clause-err : goal.returns-clause-err
 returns-clause-err g c =
     IfErr-breaks g.N.Node.does (λ l. caller_of l.caller) (λ l. l.crew) c.feed.result c.args.self.now _ (c.args.r ∷ []) _ _ refl
-    c.feed.ensures.breaks c.feed.ensures.stays c.feed.ensures.rings
+    c.feed.ensures.goes.breaks c.feed.ensures.stays c.feed.ensures.goes.rings

@@ -1,7 +1,7 @@
 use Rattle.std.proofs.Common.{◌≡◌}
 use Rattle.ff_engine.specs.Callers.{Moves, SameRings}
 use Rattle.ff_engine.specs.Seen.{caller_of}
-use Rattle.ff_engine.proofs.caller.Caller.show_till_quiet.Given as goal
+use Rattle.ff_engine.proofs.caller.Caller.show_till_still.Given as goal
 
 -- what came so far
 abbrev pub invariant-loop : goal.invariant-loop

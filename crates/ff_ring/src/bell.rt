@@ -1,0 +1,78 @@
+// How a thread is woken, and how another one sees that it rests.
+use std::sync::Wait;
+use std::sync::atomic::{AtomicU64, Ordering};
+use std::thread::Parker;
+use std::time::Duration;
+
+// The thread works, or its bell rang since it last tried.
+const WORKS: u64 = 0;
+
+// It found nothing to do, and tries once more.
+const TRIES: u64 = 1;
+
+// That try found nothing either, and the bell hasn't rung since before it: all that was handed over was seen.
+const RESTS: u64 = 2;
+
+// As before, and another thread noted it.
+const NOTED: u64 = 3;
+
+/// The bell of a thread. The other ends of its rings ring it behind each handing over, which wakes the thread.
+///
+/// It also tells whether the thread rests. A thread rests only once a try found nothing that began after the last ring:
+/// a ring undoes what led there, and a try that began before it doesn't count. What was handed over before a ring is
+/// found by each try that begins after it. So a thread that rests has nothing to do but what others hand over later.
+#[derive(Drop)]
+pub struct Bell {
+    parker: Parker,
+    state: AtomicU64,
+}
+
+impl Bell {
+    /// The bell of a thread that works.
+    pub fn new() -> Bell {
+        Bell {
+            parker: Parker::new(),
+            state: AtomicU64::new(WORKS),
+        }
+    }
+
+    /// Wakes the thread. Something was handed over to it before.
+    pub fn ring(&self) {
+        // In this order: a thread whose rest is undone is also woken, to lie down again.
+        self.state.store(WORKS, Ordering::SeqCst);
+        self.parker.unpark();
+    }
+
+    /// Whether the thread rests, which is noted.
+    pub fn notes_rest(&self) -> bool {
+        let state = &self.state;
+        match state.compare_exchange(RESTS, NOTED, Ordering::SeqCst, Ordering::SeqCst) {
+            Ok(_) => true,
+            Err(seen) => seen == NOTED,
+        }
+    }
+
+    /// Whether the thread has rested ever since that was noted.
+    pub fn still_rests(&self) -> bool {
+        self.state.load(Ordering::SeqCst) == NOTED
+    }
+
+    /// The thread is about to try once more.
+    pub(crate) fn tries(&self) {
+        self.state.store(TRIES, Ordering::SeqCst);
+    }
+
+    /// The thread works again.
+    pub(crate) fn works(&self) {
+        self.state.store(WORKS, Ordering::SeqCst);
+    }
+
+    /// The thread sleeps until the bell rings or the time is over. It rests meanwhile, if it tried once more.
+    pub(crate) fn sleep<R: Wait>(&self, rt: &R, time: Duration) {
+        let state = &self.state;
+        // Where the bell rang behind that try, this changes nothing, and the sleep ends at once.
+        let _ = state.compare_exchange(TRIES, RESTS, Ordering::SeqCst, Ordering::SeqCst);
+        self.parker.park_timeout(rt, time);
+        self.works();
+    }
+}
