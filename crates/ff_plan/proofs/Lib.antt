@@ -44,3 +44,10 @@ mod ODealing
 mod OFarm
 mod NetLaws
 mod NodeFacts
+pub mod Standing
+pub mod Ports
+pub mod Ranges
+pub mod Weighed
+pub mod JoinedUnits
+pub mod Among
+pub mod Loopless

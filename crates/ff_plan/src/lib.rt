@@ -11,11 +11,15 @@ mod laying;
 pub mod laws;
 mod layout;
 mod on_demand;
+mod places;
 mod planning;
 mod span;
 mod units;
+mod wiring;
 
 pub use edge_list::EdgeList;
 pub use kind::{Party, Queue, UnitKind};
 pub use layout::{Edge, Layout, UnitRow};
+pub use places::nets_stand_at_places;
 pub use planning::plan;
+pub use wiring::each_edge_has_two_ends;

@@ -17,3 +17,4 @@ pub mod NetPrinting
 pub mod DepthLaw
 pub mod PrintLaw
 pub mod PrintedOperations
+pub mod PlanText

@@ -33,7 +33,7 @@ pub use laws::{
     printed_operations_are_read, printed_pieces_are_cut_into_them, stops_are_first_faults,
     texts_are_cut_from_the_front, texts_of_networks_are_taken, texts_stop_at_their_end,
 };
-pub use print::{print_described, print_net};
+pub use print::{print_described, print_net, print_plan};
 pub use reader::Reader;
 pub use text_mark::TextMark;
 pub use token::{PlacedToken, Token};

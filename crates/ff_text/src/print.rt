@@ -4,8 +4,11 @@ ghost use Rattle.ff_net.specs.Tree.{tree_of, trees_of};
 ghost use Rattle.ff_text.specs.NetPrinting.{printed_farm, printed_net, printed_parts, printed_described};
 
 mod form_words;
+mod plan;
 #[cfg(test)]
 mod tests;
+
+pub use plan::print_plan;
 
 use crate::Described;
 use crate::print::form_words::{print_front, print_middle, print_side, print_test};

@@ -8,8 +8,8 @@ use ff_net::{Route, Sched, Test};
 use ff_ops::Arg;
 use ff_rec::NoMemory;
 
-// A count or a field number.
-fn print_count(n: u32, into: &mut Vec<u8>) -> Result<(), NoMemory>
+/// A count, a field number, or the number of an edge.
+pub(super) fn print_count(n: u32, into: &mut Vec<u8>) -> Result<(), NoMemory>
     ensures { OnOk result (into.new.items ≡ into.old.items ++ printed (pos n)) }
 {
     Arg::Num(i64::from(n)).print(into)
