@@ -25,3 +25,8 @@ pub mod PipelineBegins
 pub mod PipelineEnds
 pub mod PipelineOpened
 pub mod UnitsOpened
+pub mod PlanStages
+pub mod StageEnds
+pub mod OverBegins
+pub mod OverEnds
+pub mod OverWhole

@@ -9,3 +9,4 @@ pub mod Rejects
 pub mod Seen
 pub mod Pipelines
 pub mod Units
+pub mod OverEdges
