@@ -62,4 +62,12 @@ impl Layout {
     {
         &self.edges
     }
+
+    /// The units and the edges.
+    pub fn into_parts(self) -> (Vec<UnitRow>, Vec<Edge>)
+        ensures units { result.0.items ≡ self.units }
+        ensures edges { result.1.items ≡ self.edges }
+    {
+        (self.units, self.edges)
+    }
 }
