@@ -1,9 +1,12 @@
-pub mod Linking
-pub mod Passing
+pub mod SlotLaws
+pub mod Wired
+pub mod BoardLaws
+pub mod Settlings
+pub mod PlanEdges
 pub mod Finished
 pub mod Stages
 pub mod Callings
-pub mod JobChains
+pub mod Handled
 pub mod LineRuns
 pub mod LineEnds
 pub mod NetStarts

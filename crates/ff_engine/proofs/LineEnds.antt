@@ -10,8 +10,8 @@ use Rattle.ff_rec.specs.Counts.{counted}
 use Rattle.ff_rec.specs.Lines.{Rec, line_of, text}
 use Rattle.ff_rec.specs.Streams.{IsOpen, items, carried}
 use Rattle.ff_rec.specs.declared.msg.Msg.TheVariants.{Item, Eos, Abort}
-use Rattle.ff_node.specs.Behaviour.{Behaviour, KeepsKind}
-use Rattle.ff_node.specs.Comb.{Part, comb_node}
+use Rattle.ff_node.specs.Behaviour.{Behaviour}
+use Rattle.ff_node.specs.Comb.{comb_node}
 use Rattle.ff_node.specs.Runs.{Message}
 use Rattle.ff_port.specs.declared.answers.End.{End}
 use Rattle.ff_port.specs.declared.answers.End.TheVariants.{Eos as EndEos}
@@ -25,8 +25,8 @@ use Rattle.ff_stream.specs.declared.fault.Halt.TheVariants.{Write, NoMemory}
 use Rattle.ff_stream.specs.declared.fault.RunFault.{RunFault}
 use Rattle.ff_unit.specs.MessageLaws.{IsOpen-carried, items-append}
 use Rattle.ff_unit.specs.StageUnit.{stage_does}
-use Rattle.ff_unit.specs.Units.{IsUnit, end_of}
-use Rattle.ff_engine.specs.Callers.{CallerState, Shows, Moves, Breaks, SameRings, EndsOnce, EndsWithEos, TakesMore}
+use Rattle.ff_unit.specs.Units.{end_of}
+use Rattle.ff_engine.specs.Callers.{CallerState, Moves, Breaks, SameRings, EndsOnce, EndsWithEos, TakesMore}
 use Rattle.ff_engine.specs.Conclusions.{Concludes}
 use Rattle.ff_engine.specs.Crews.{IsJoined}
 use Rattle.ff_engine.specs.Ends.{ends_by_eos}
@@ -118,7 +118,7 @@ Ends-halted : {N : Type 0} (j : Job N) (halt : Halt) (xs : List Rec) (front : Li
 Ends-halted j Write xs front t t' broken = broken
 Ends-halted j NoMemory xs front t t' broken = broken
 
-module _ {N : Type 0} (b : Behaviour N) (kind : KeepsKind (comb_node b)) (facts : IsUnit (stage_does (comb_node b))) (j : Job N) (c c' : CallerState)
+module _ {N : Type 0} (b : Behaviour N) (j : Job N) (c c' : CallerState)
     (jobs : List (JobState (UnitOf N))) (xs : List Rec) (front : List ℕ) (at : HasFed b j c jobs xs front) (before : List Message) (us : List (UnitOf N)) (taken : List Message)
     (worked worked' : ℕ) (joined : IsJoined (stage_does (comb_node b)) before jobs us taken worked worked') (puts : before ≡ c'.put) (gots : taken ≡ c'.got)
     (t t' : Option (List ℕ)) where
@@ -132,7 +132,7 @@ module _ {N : Type 0} (b : Behaviour N) (kind : KeepsKind (comb_node b)) (facts 
       Ends-halted j halt xs front t t' (record {
         put = broke.written;
         taken = broke.taken;
-        begun = Begun-joined b kind facts j jobs at.made before us taken worked worked' joined halt xs (once ends) (front ++ broke.written) rest.0
+        begun = Begun-joined b j jobs at.made before us taken worked worked' joined halt xs (once ends) (front ++ broke.written) rest.0
             (ap (λ ms. text (items ms)) gots ∙ rest.1);
       })
 
@@ -141,7 +141,7 @@ module _ {N : Type 0} (b : Behaviour N) (kind : KeepsKind (comb_node b)) (facts 
   Ends-short put moved = record {
     put = moved.written;
     taken = moved.taken;
-    begun = Begun-joined b kind facts j jobs at.made before us taken worked worked' joined NoMemory xs (once (inl put)) (front ++ moved.written) c'.text
+    begun = Begun-joined b j jobs at.made before us taken worked worked' joined NoMemory xs (once (inl put)) (front ++ moved.written) c'.text
         (ap (λ ms. text (items ms)) gots ∙ moved.shows front at.shows);
   }
 
@@ -153,13 +153,13 @@ module _ {N : Type 0} (b : Behaviour N) (kind : KeepsKind (comb_node b)) (facts 
     pub Ends-ended : (report : Report) → EndsWithEos c'.got → Moves c c' t t' → c'.text ≡ [] → report.rejected ≡ counted (sum_by (λ u. u.rejects) us)
         → report.kept ≡ flat_map (λ u. u.kept) us → Ends j xs front t t' (Ok report)
     Ends-ended report eos moved shown number kept =
-        RunEnded-joined b kind facts j jobs at.made before us taken worked worked' joined xs closed-put (AllEnded (comb_node b) us all) report number kept
+        RunEnded-joined b j jobs at.made before us taken worked worked' joined xs closed-put (AllEnded (comb_node b) us all) report number kept
         front (ahead_of (Eos ∷ []) c'.got) moved.written (gots ∙ eos)
         (ap (λ ms. text (items ms)) gots ∙ moved.shows front at.shows ∙ ap (λ l. (front ++ moved.written) ++ l) shown ∙ append-nil (front ++ moved.written)) t t' moved.taken
 
     -- and the jobs handled all records
     pub WorkedThrough-ended : WorkedThrough j xs worked worked'
-    WorkedThrough-ended = WorkedThrough-joined b kind facts j jobs at.made before us taken worked worked' joined xs closed-put (AllEnded (comb_node b) us all)
+    WorkedThrough-ended = WorkedThrough-joined b j jobs at.made before us taken worked worked' joined xs closed-put (AllEnded (comb_node b) us all)
 
   -- however it ended
   pub Ends-concluded : {A : Type 0} (shown : Result A Halt) (end : Option End) (answer : Result Report RunFault) → Concludes (stage_does (comb_node b)) shown end us answer
@@ -179,23 +179,23 @@ module _ {N : Type 0} (b : Behaviour N) (kind : KeepsKind (comb_node b)) (facts 
   WorkedThrough-concluded (Ok a) end (Err fault) concluded put = tt
 
 -- the jobs handled all records, wherever a report came of it
-pub WorkedThrough-all : {N A : Type 0} (b : Behaviour N) (kind : KeepsKind (comb_node b)) (facts : IsUnit (stage_does (comb_node b))) (c c' : CallerState)
+pub WorkedThrough-all : {N A : Type 0} (b : Behaviour N) (c c' : CallerState)
     (jobs : List (JobState (UnitOf N))) (before : List Message) (us : List (UnitOf N)) (taken : List Message)
     (worked worked' : ℕ) → IsJoined (stage_does (comb_node b)) before jobs us taken worked worked' → before ≡ c'.put → taken ≡ c'.got
     → (shown : Result A Halt) (end : Option End) (answer : Result Report RunFault) → Concludes (stage_does (comb_node b)) shown end us answer
     → OnOk shown (c'.put ≡ c.put ++ Eos ∷ [])
     → OnOk answer ((j : Job N) (xs : List Rec) (front : List ℕ) → HasFed b j c jobs xs front → WorkedThrough j xs worked worked')
-WorkedThrough-all b kind facts c c' jobs before us taken worked worked' joined puts gots shown end (Ok report) concluded put = λ j xs front at.
-    WorkedThrough-concluded b kind facts j c c' jobs xs front at before us taken worked worked' joined puts gots None None shown end (Ok report) concluded put
-WorkedThrough-all b kind facts c c' jobs before us taken worked worked' joined puts gots shown end (Err fault) concluded put = tt
+WorkedThrough-all b c c' jobs before us taken worked worked' joined puts gots shown end (Ok report) concluded put = λ j xs front at.
+    WorkedThrough-concluded b j c c' jobs xs front at before us taken worked worked' joined puts gots None None shown end (Ok report) concluded put
+WorkedThrough-all b c c' jobs before us taken worked worked' joined puts gots shown end (Err fault) concluded put = tt
 
 -- where Abort was put behind the records
-pub IsOpen-stopped : {N : Type 0} (b : Behaviour N) (kind : KeepsKind (comb_node b)) (facts : IsUnit (stage_does (comb_node b))) (j : Job N) (halt : Halt) (c c' : CallerState)
+pub IsOpen-stopped : {N : Type 0} (b : Behaviour N) (j : Job N) (halt : Halt) (c c' : CallerState)
     (jobs : List (JobState (UnitOf N))) (xs : List Rec) (front : List ℕ) → HasStopped b j c jobs xs front → (before : List Message) (us : List (UnitOf N)) (taken : List Message)
     (worked worked' : ℕ) → IsJoined (stage_does (comb_node b)) before jobs us taken worked worked' → before ≡ c'.put → taken ≡ c'.got
     → c'.put ≡ c.put ++ Abort ∷ [] → (more : TakesMore c c') → IsOpenRun j halt xs front
-IsOpen-stopped b kind facts j halt c c' jobs xs front at before us taken worked worked' joined puts gots put more =
-    IsOpen-joined b kind facts j jobs at.made before us taken worked worked' joined halt xs (puts ∙ put ∙ ap (λ ms. ms ++ Abort ∷ []) at.put)
+IsOpen-stopped b j halt c c' jobs xs front at before us taken worked worked' joined puts gots put more =
+    IsOpen-joined b j jobs at.made before us taken worked worked' joined halt xs (puts ∙ put ∙ ap (λ ms. ms ++ Abort ∷ []) at.put)
     front (at.back ++ text (items more.more))
     (ap (λ ms. text (items ms)) (gots ∙ more.is) ∙ ap text (items-append c.got more.more) ∙ flat_map-append line_of (items c.got) (items more.more)
     ∙ ap (λ l. l ++ text (items more.more)) at.splits ∙ append_assoc front at.back (text (items more.more)))

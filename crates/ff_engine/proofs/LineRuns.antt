@@ -1,54 +1,53 @@
--- What a line of jobs that has ended has done.
+-- What the jobs of a network that have ended have done.
 use Rattle.std.proofs.Common.{◌≡◌, ℕ, ◌+◌, ◌≤◌, Bool, true, false, List, [], ◌∷◌, ◌++◌, length, map, sum_by, flat_map, Some, refl, sym, ap, ap₂, ◌∙◌, inl, inr, subst, append_assoc, append-nil, arith}
 use Rattle.std.proofs.lemmas.Bool.{and_parts, both_ways}
 use Rattle.std.proofs.lemmas.Grind.{flat_map-append}
-use Rattle.std.proofs.lemmas.List.{length-map, map-append}
-use Rattle.std.proofs.lemmas.List.Recursion.{is_sum_by}
-use Rattle.std.specs.List.{AllByRecursion, AllZip, list_all}
+use Rattle.std.specs.List.{AllByRecursion, list_all}
 use Rattle.std.specs.Prelude.{Option, None, ◌⊎◌, if◌then◌else◌}
 use Rattle.std.specs.Io.KnownBytes.{Appends}
 use Rattle.ff_rec.specs.Counts.{counted}
 use Rattle.ff_rec.specs.Lines.{Rec, line_of, text}
-use Rattle.ff_rec.specs.Streams.{IsOpen, items, carried, closed, unaborted, GoesOn}
-use Rattle.ff_rec.specs.declared.msg.Msg.TheVariants.{Item, Eos as EosMsg, Abort as AbortMsg}
+use Rattle.ff_rec.specs.Streams.{items, carried, closed, unaborted, GoesOn}
+use Rattle.ff_rec.specs.declared.msg.Msg.TheVariants.{Eos as EosMsg, Abort as AbortMsg}
 use Rattle.ff_rec.specs.Weights.{Same}
-use Rattle.ff_rec.proofs.WeightLaws.{Same-trans, Same-sym, Same-≡, Same-length}
-use Rattle.ff_node.specs.Behaviour.{Behaviour, KeepsKind, pipeline, pipeline_rejected}
-use Rattle.ff_node.specs.Comb.{Part, comb_node, running}
+use Rattle.ff_rec.proofs.WeightLaws.{Same-trans, Same-sym, Same-≡}
+use Rattle.ff_node.specs.Behaviour.{Behaviour, KeepsKind}
+use Rattle.ff_node.specs.Comb.{comb_node, running}
+use Rattle.ff_node.specs.CombKindLaws.{comb_keeps_kind}
 use Rattle.ff_node.specs.Runs.{Message}
 use Rattle.ff_port.specs.declared.answers.End.{End}
 use Rattle.ff_port.specs.declared.answers.End.TheVariants.{Eos, Abort, Memory}
 use Rattle.ff_net.specs.Counts.{units}
 use Rattle.ff_net.specs.Forms.{has_wrap}
-use Rattle.ff_net.specs.Kept.{AreKept}
-use Rattle.ff_net.specs.Meaning.{mean_rejected}
+use Rattle.ff_net.specs.Meaning.{mean_rejected, mean_rejected_count, Answers}
 use Rattle.ff_net.specs.Nodes.{node_groups}
-use Rattle.ff_mean.specs.Pipelines.{ArePipelineOf}
-use Rattle.ff_spawn.specs.Counts.{more_by, worked_after, RoseBy}
+use Rattle.ff_net.proofs.NodeGroups.{has_wrap-whole}
+use Rattle.ff_plan.specs.PlanLaws.{BeginsAnswer}
+use Rattle.ff_plan.specs.Plans.{rows_of}
+use Rattle.ff_spawn.specs.Counts.{RoseBy}
 use Rattle.ff_spawn.specs.CountLaws.{RoseBy-worked_after}
-use Rattle.ff_steps.proofs.Chain.{RunNodes, HasEnded, head-same, tail-same, cons≢nil, GoesOn-chain, closed-chain, closed-unit}
-use Rattle.ff_steps.proofs.ChainRejects.{rejects_of, kept-chain, rejects-chain}
-use Rattle.ff_steps.proofs.ChainTook.{took-chain}
-use Rattle.ff_steps.proofs.MessageLists.{GoesOn-front, GoesOn-items, closed-front, items-closed, unaborted-carried, carried-append}
-use Rattle.ff_steps.specs.Chains.{Passes, Chained, gots_along}
+use Rattle.ff_steps.proofs.Chain.{HasEnded, head-same, tail-same, cons≢nil}
+use Rattle.ff_steps.proofs.MessageLists.{closed-front, items-closed, carried-append}
+use Rattle.ff_steps.proofs.OverBegins.{BeginsAnswer-over}
+use Rattle.ff_steps.proofs.OverWhole.{HasAnswered-over}
+use Rattle.ff_steps.specs.OverEdges.{HasAnswered, RanAlong, RanOver}
 use Rattle.ff_steps.specs.Units.{opened_units}
 use Rattle.ff_stream.specs.Endings.{Begun, IsBeginning, IsReported}
-use Rattle.ff_stream.specs.FlowLaws.{Answers-mean, Begun-beginning, no-wrap}
+use Rattle.ff_stream.specs.FlowLaws.{Begun-beginning, no-wrap}
 use Rattle.ff_stream.specs.Jobs.{Job}
 use Rattle.ff_stream.specs.Works.{HasEnded as RunEnded, IsOpen as IsOpenRun}
 use Rattle.ff_stream.specs.declared.ending.Report.{Report}
 use Rattle.ff_stream.specs.declared.fault.Halt.{Halt}
-use Rattle.ff_unit.specs.MessageLaws.{IsOpen-carried, unaborted-append, unaborted-closed, unaborted-cut}
-use Rattle.ff_unit.specs.Stage.{StageState, opened_stage, opening_stage, started}
+use Rattle.ff_unit.specs.MessageLaws.{IsOpen-carried, items-append, unaborted-closed, unaborted-cut}
+use Rattle.ff_unit.specs.Stage.{StageState, opening_stage, started}
 use Rattle.ff_unit.specs.StageUnit.{stage_does}
-use Rattle.ff_unit.specs.Units.{Doing, IsUnit, HasRejects, end_of}
+use Rattle.ff_unit.specs.Units.{Doing, end_of}
 use Rattle.ff_engine.specs.Crews.{IsJoined}
-use Rattle.ff_engine.specs.Jobs.{JobState, HasWorked, handled}
-use Rattle.ff_engine.specs.Lines.{JobsChained}
-use Rattle.ff_engine.specs.Networks.{UnitOf, AreJobsOf, combs_of}
 use Rattle.ff_engine.specs.Ends.{ends_by_eos}
-use Rattle.ff_engine.proofs.Finished.{openings-finished}
-use Rattle.ff_engine.proofs.JobChains.{Chained-jobs, handled-jobs}
+use Rattle.ff_engine.specs.Jobs.{JobState, handled}
+use Rattle.ff_engine.specs.Networks.{UnitOf, AreJobsOf}
+use Rattle.ff_engine.proofs.Finished.{openings-finished, rows-finished, taken-finished, RanAlong-finished}
+use Rattle.ff_engine.proofs.Handled.{handled-all}
 
 -- records that were put go on to all that follow, whether Abort was put behind them
 pub GoesOn-open : (before : List Message) (xs zs : List Rec) → before ≡ carried xs ++ AbortMsg ∷ [] → GoesOn (unaborted before) (carried (xs ++ zs))
@@ -82,78 +81,73 @@ module _ {S : Type 0} (c : Behaviour S) where
       let parts = and_parts (ends_by_eos (end_of (stage_does c) u)) (list_all (λ v. ends_by_eos (end_of (stage_does c) v)) us) all in
       (ends-parts u.done u.fin parts.0, AllEnded us parts.1)
 
-  -- rejects that aren't kept
-  none-chain : (facts : IsUnit (stage_does c)) (before : List Message) (us : List (StageState S)) (os : List S) (behind : List Message) → RunNodes c false us os
-      → Chained (stage_does c) before us behind → AllByRecursion HasEnded us → flat_map (λ u. u.kept) us ≡ []
-  none-chain facts before [] os behind made chained ended = refl
-  none-chain facts before (u ∷ us) [] behind made chained ended = absurd (cons≢nil made)
-  none-chain facts before (u ∷ us) (o ∷ os) behind made chained ended =
-      let here = facts.rejects_are u (chained.1.got ∷ []) (chained.0 ∷ []) chained.1.ran ended.0.0 ended.0.1 in
-      ap₂ (λ l m. l ++ m) (here.none (ap (λ s. s.keeps) (head-same made))) (none-chain facts chained.0 us os behind (tail-same made) chained.2 ended.1)
-
+module _ {N : Type 0} (b : Behaviour N) where
   -- a stage before its first step is what it was before its first step
-  opened-again : KeepsKind c → (keep : Bool) (os : List S) → map (opening_stage c) (map (λ o. opened_stage c o keep) os) ≡ map (λ o. opened_stage c o keep) os
+  opened-again : KeepsKind (comb_node b) → (keep : Bool) (groups : List (List N)) → map (opening_stage (comb_node b)) (opened_units b keep groups) ≡ opened_units b keep groups
   opened-again kind keep [] = refl
-  opened-again kind keep (o ∷ os) =
-      ap₂ (λ u us. u ∷ us) (ap (λ n. started n keep) (kind.opening_of_opening o))
-      (opened-again kind keep os)
+  opened-again kind keep (g ∷ groups) =
+      ap₂ (λ u us. u ∷ us) (ap (λ n. started n keep) (kind.opening_of_opening (running (map b.opening g)))) (opened-again kind keep groups)
 
-  -- no reject was taken out while the jobs ran
-  untaken : (keep : Bool) (os : List S) (begun jobs : List (JobState (StageState S))) → map (λ job. job.unit) begun ≡ map (λ o. opened_stage c o keep) os
-      → AllZip (HasWorked (stage_does c)) begun jobs → flat_map (λ u. u.taken) (map (λ job. job.unit) jobs) ≡ []
-  untaken keep os [] [] are all = refl
-  untaken keep os [] (job ∷ jobs) are all = absurd all
-  untaken keep os (was ∷ begun) [] are all = absurd all
-  untaken keep [] (was ∷ begun) (job ∷ jobs) are all = absurd (cons≢nil are)
-  untaken keep (o ∷ os) (was ∷ begun) (job ∷ jobs) are all =
-      ap₂ (λ l m. l ++ m) (all.0.taken ∙ ap (λ u. u.taken) (head-same are)) (untaken keep os begun jobs (tail-same are) all.1)
+  -- no reject was taken out of one
+  untaken : (keep : Bool) (groups : List (List N)) → flat_map (λ (u : UnitOf N). u.taken) (opened_units b keep groups) ≡ []
+  untaken keep [] = refl
+  untaken keep (g ∷ groups) = untaken keep groups
 
-module _ {N : Type 0} (b : Behaviour N) (kind : KeepsKind (comb_node b)) (facts : IsUnit (stage_does (comb_node b))) where
-  abbrev c : Behaviour (List (Part N))
-  c = comb_node b
+  flat-taken : (us vs : List (UnitOf N)) → map (λ u. u.taken) us ≡ map (λ u. u.taken) vs → flat_map (λ u. u.taken) us ≡ flat_map (λ u. u.taken) vs
+  flat-taken [] [] same = refl
+  flat-taken [] (v ∷ vs) same = absurd (cons≢nil (sym same))
+  flat-taken (u ∷ us) [] same = absurd (cons≢nil same)
+  flat-taken (u ∷ us) (v ∷ vs) same = ap₂ (λ l m. l ++ m) (head-same same) (flat-taken us vs (tail-same same))
 
   abbrev d : Doing (UnitOf N)
-  d = stage_does c
-
-  -- the units of a network are stages of combs
-  opened_units-combs : (keep : Bool) (groups : List (List N)) → opened_units b keep groups ≡ map (λ o. opened_stage c o keep) (combs_of b groups)
-  opened_units-combs keep [] = refl
-  opened_units-combs keep (g ∷ groups) = ap (λ us. opened_stage c (running (map b.opening g)) keep ∷ us) (opened_units-combs keep groups)
+  d = stage_does (comb_node b)
 
   module _ (j : Job N) (was : List (JobState (UnitOf N))) (made : AreJobsOf b j was) (before : List Message) (us : List (UnitOf N)) (taken : List Message)
       (worked worked' : ℕ) (joined : IsJoined d before was us taken worked worked') where
-    abbrev os : List (List (Part N))
-    os = combs_of b (node_groups j.net)
+    kind : KeepsKind (comb_node b)
+    kind = comb_keeps_kind b made.laws.kind
 
-    are : map (λ job. job.unit) was ≡ map (λ o. opened_stage c o j.keep) os
-    are = made.units_are ∙ opened_units-combs j.keep (node_groups j.net)
+    abbrev got : ℕ → List Message
+    got = joined.settled.got
 
-    -- the units run the combs of the network
-    runs : RunNodes c j.keep (map (λ job. job.unit) joined.finished) os
-    runs = openings-finished d was joined.finished joined.each ∙ ap (λ vs. map (opening_stage c) vs) are ∙ opened-again c kind j.keep os
+    abbrev put : ℕ → List Message
+    put = joined.settled.put
 
-    chain : Chained d before (map (λ job. job.unit) joined.finished) joined.settled.behind
-    chain = Chained-jobs d before was joined.finished joined.settled.behind joined.each joined.settled.chained
+    ran : RanAlong d got put (rows_of j.net) us
+    ran =
+        subst (λ rows. RanAlong d got put rows us) (rows-finished d was joined.finished joined.each ∙ made.rows_are)
+        (subst (λ vs. RanAlong d got put (map (λ job. job.row) joined.finished) vs) (sym joined.units_are)
+        (RanAlong-finished d got put was joined.finished joined.each joined.settled.each))
 
-    ended : AllByRecursion HasEnded us → AllByRecursion HasEnded (map (λ job. job.unit) joined.finished)
-    ended all = subst (λ vs. AllByRecursion HasEnded vs) joined.units_are all
+    -- the units ran over the edges of the network's plan
+    over : RanOver b j.keep j.net us got put
+    over = record {
+      made = ap (map (opening_stage (comb_node b))) joined.units_are ∙ openings-finished d was joined.finished joined.each
+          ∙ ap (map (opening_stage (comb_node b))) made.units_are ∙ opened-again kind j.keep (node_groups j.net);
+      first = joined.settled.first;
+      ran = ran;
+    }
 
-    -- what was taken behind the last unit is the first of what the network sends
-    begins : (xs : List Rec) → GoesOn (unaborted before) (carried xs) → (rest : List Rec) × (pipeline c os xs ≡ items taken ++ rest)
-    begins xs g = GoesOn-items taken (pipeline c os xs)
-        (GoesOn-front taken joined.settled.left (carried (pipeline c os xs))
-        (subst (λ ms. GoesOn (unaborted ms) (carried (pipeline c os xs))) joined.settled.splits
-        (GoesOn-chain c j.keep facts before (map (λ job. job.unit) joined.finished) os joined.settled.behind runs chain xs g)))
+    -- what was taken behind them is the first of an answer
+    begins : (xs : List Rec) → GoesOn (unaborted before) (carried xs) → BeginsAnswer b j.tasks j.net xs (items (put 1))
+    begins xs goes =
+        BeginsAnswer-over b made.laws.kind made.laws.class j.keep j.tasks j.net made.whole (made.laws.cut_runs j.tasks) us got put over xs
+        (subst (λ ms. GoesOn (unaborted ms) (carried xs)) (sym joined.settled.fed) goes)
 
     -- the text of it begins an answer
     pub IsBeginning-joined : (xs : List Rec) → GoesOn (unaborted before) (carried xs) → (front back : List ℕ) → text (items taken) ≡ front ++ back → IsBeginning j xs front
-    IsBeginning-joined xs g front back splits =
-        let rest = begins xs g in
+    IsBeginning-joined xs goes front back splits =
+        let begun = begins xs goes in
+        let more = joined.settled.first 1 in
+        let came : begun.all ≡ items taken ++ (items more.0 ++ begun.rest) =
+        begun.splits ∙ ap (λ l. l ++ begun.rest) (ap items more.1 ∙ items-append (got 1) more.0 ∙ ap (λ ms. items ms ++ items more.0) joined.settled.drained)
+        ∙ append_assoc (items taken) (items more.0) begun.rest in
         record {
-          sent = pipeline c os xs;
-          back = back ++ text rest.0;
-          answers = Answers-mean j xs (pipeline c os xs) (made.stand.fine j.tasks xs) (made.stand.sends j.tasks xs);
-          splits = ap text rest.1 ∙ flat_map-append line_of (items taken) rest.0 ∙ ap (λ l. l ++ text rest.0) splits ∙ append_assoc front back (text rest.0);
+          sent = begun.all;
+          back = back ++ text (items more.0 ++ begun.rest);
+          answers = subst (λ does. Answers does j.tasks j.net xs begun.all) (sym made.does_is) begun.answers;
+          splits = ap text came ∙ flat_map-append line_of (items taken) (items more.0 ++ begun.rest)
+              ∙ ap (λ l. l ++ text (items more.0 ++ begun.rest)) splits ∙ append_assoc front back (text (items more.0 ++ begun.rest));
         }
 
     -- where Abort was put behind the records, it begins one whatever follows
@@ -161,7 +155,7 @@ module _ {N : Type 0} (b : Behaviour N) (kind : KeepsKind (comb_node b)) (facts 
         → IsOpenRun j halt xs front
     IsOpen-joined halt xs put front back splits = record {
       begun = λ zs. Begun-beginning j halt (xs ++ zs) front (IsBeginning-joined (xs ++ zs) (GoesOn-open before xs zs put) front back splits);
-      waits = λ wraps. no-wrap (has_wrap j.net) made.stand.no_wrap wraps;
+      waits = λ wraps. no-wrap (has_wrap j.net) (has_wrap-whole j.net made.whole) wraps;
     }
 
     -- where it broke off at its end
@@ -175,43 +169,36 @@ module _ {N : Type 0} (b : Behaviour N) (kind : KeepsKind (comb_node b)) (facts 
           | inr abort ↦ subst (λ l. GoesOn (unaborted before) (carried l)) (append-nil xs) (GoesOn-open before xs [] abort)
         ]
 
-    module _ (xs : List Rec) (put : before ≡ closed (carried xs)) (all : AllByRecursion HasEnded us) where
-      whole : joined.settled.behind ≡ closed (carried (pipeline c os xs))
-      whole = closed-chain c j.keep facts before (map (λ job. job.unit) joined.finished) os joined.settled.behind runs chain (ended all) xs put
+    module _ (xs : List Rec) (put_is : before ≡ closed (carried xs)) (all : AllByRecursion HasEnded us) where
+      fed : put 0 ≡ closed (carried xs)
+      fed = joined.settled.fed ∙ put_is
+
+      answered : HasAnswered b j.tasks j.keep j.net xs us put
+      answered = HasAnswered-over b made.laws.kind made.laws.class j.keep j.net made.whole made.laws.good us got put over all xs fed j.tasks (made.laws.whole_runs j.tasks)
 
       -- all that the network sends was taken, where Eos was
-      items-joined : (front : List Message) → taken ≡ closed front → items taken ≡ pipeline c os xs
+      items-joined : (front : List Message) → taken ≡ closed front → items taken ≡ answered.ys
       items-joined front is =
-          let same : front ≡ carried (pipeline c os xs) =
-          closed-front front joined.settled.left (pipeline c os xs) (ap (λ ms. ms ++ joined.settled.left) (sym is) ∙ sym joined.settled.splits ∙ whole) in
-          ap items (is ∙ ap closed same) ∙ items-closed (pipeline c os xs)
+          let more = joined.settled.first 1 in
+          let same : front ≡ carried answered.ys =
+          closed-front front more.0 answered.ys (ap (λ ms. ms ++ more.0) (sym is ∙ sym joined.settled.drained) ∙ sym more.1 ∙ answered.carries) in
+          ap items (is ∙ ap closed same) ∙ items-closed answered.ys
 
-      rejects-joined : counted (sum_by (λ u. u.rejects) us) ≡ counted (length (pipeline_rejected c os xs))
-      rejects-joined =
-          ap (λ vs. counted (sum_by (λ u. u.rejects) vs)) joined.units_are
-          ∙ ap counted (sym (is_sum_by rejects_of (λ u. u.rejects) refl (λ u vs. refl) (map (λ job. job.unit) joined.finished)))
-          ∙ rejects-chain c j.keep facts before (map (λ job. job.unit) joined.finished) os joined.settled.behind runs chain (ended all) xs put
-
-      kept-joined : j.keep ≡ true → Same (pipeline_rejected c os xs) (flat_map (λ u. u.kept) us)
-      kept-joined keep =
-          let vs = map (λ job. job.unit) joined.finished in
-          Same-trans (Same-sym (kept-chain c j.keep facts before vs os joined.settled.behind runs chain (ended all) keep xs put))
-          (Same-≡ _ _ (ap (λ l. l ++ flat_map (λ u. u.kept) vs) (untaken c j.keep os was joined.finished are joined.each)
-          ∙ ap (λ ws. flat_map (λ u. u.kept) ws) (sym joined.units_are)))
-
-      none-joined : j.keep ≡ false → flat_map (λ u. u.kept) us ≡ []
-      none-joined none =
-          ap (λ ws. flat_map (λ u. u.kept) ws) joined.units_are
-          ∙ none-chain c facts before (map (λ job. job.unit) joined.finished) os joined.settled.behind
-          (subst (λ k. RunNodes c k (map (λ job. job.unit) joined.finished) os) none runs) chain (ended all)
+      -- none was taken out of the units while they ran
+      none_taken : flat_map (λ (u : UnitOf N). u.taken) us ≡ []
+      none_taken =
+          ap (λ vs. flat_map (λ (u : UnitOf N). u.taken) vs) joined.units_are
+          ∙ flat-taken (map (λ job. job.unit) joined.finished) (map (λ job. job.unit) was) (taken-finished d was joined.finished joined.each)
+          ∙ ap (λ vs. flat_map (λ (u : UnitOf N). u.taken) vs) made.units_are ∙ untaken j.keep (node_groups j.net)
 
       -- the report of the units is that of the network
       IsReported-joined : (report : Report) → report.rejected ≡ counted (sum_by (λ u. u.rejects) us) → report.kept ≡ flat_map (λ u. u.kept) us → IsReported j xs report
       IsReported-joined report number kept = record {
-        rejected = number ∙ rejects-joined ∙ ap counted (sym (Same-length (made.stand.rejects j.tasks xs)));
+        rejected = number ∙ answered.number ∙ ap (λ does. mean_rejected_count does j.tasks j.net xs) (sym made.does_is);
         kept = record {
-          all = λ keep. Same-trans (made.stand.rejects j.tasks xs) (Same-trans (kept-joined keep) (Same-≡ _ _ (sym kept)));
-          none = λ none. kept ∙ none-joined none;
+          all = λ keep. subst (λ does. Same (mean_rejected does j.tasks j.net xs) report.kept) (sym made.does_is)
+              (Same-trans (Same-sym (answered.kept keep)) (Same-≡ _ _ (ap (λ l. l ++ flat_map (λ u. u.kept) us) none_taken ∙ sym kept)));
+          none = λ none. kept ∙ answered.none none;
         };
       }
 
@@ -222,8 +209,8 @@ module _ {N : Type 0} (b : Behaviour N) (kind : KeepsKind (comb_node b)) (facts 
       RunEnded-joined report number kept front last written eos splits t t' appended = record {
         put = written;
         taken = appended;
-        sent = pipeline c os xs;
-        answers = Answers-mean j xs (pipeline c os xs) (made.stand.fine j.tasks xs) (made.stand.sends j.tasks xs);
+        sent = answered.ys;
+        answers = subst (λ does. Answers does j.tasks j.net xs answered.ys) (sym made.does_is) answered.answers;
         whole = ap text (sym (items-joined last eos)) ∙ splits;
         reports = IsReported-joined report number kept;
       }
@@ -231,14 +218,10 @@ module _ {N : Type 0} (b : Behaviour N) (kind : KeepsKind (comb_node b)) (facts 
       -- the jobs handled each record, and an end for each unit
       pub WorkedThrough-joined : RoseBy (units j.net + length xs) worked worked'
       WorkedThrough-joined =
-          let vs = map (λ job. job.unit) joined.finished in
-          let many : length vs ≡ length os = sym (length-map vs (opening_stage c)) ∙ ap length runs ∙ length-map os (λ o. opened_stage c o j.keep) in
-          let groups : length os ≡ length (node_groups j.net) = length-map (node_groups j.net) (λ g. running (map b.opening g)) in
-          let some : 1 ≤ length vs = omega (arith, many, groups, made.some) in
-          let took : length vs + length xs ≤ sum_by (λ (ms : List Message). length ms)
-          (gots_along d before vs joined.settled.behind (Chained-jobs d before was joined.finished joined.settled.behind joined.each joined.settled.chained)) =
-          took-chain c j.keep facts before vs os joined.settled.behind runs
-          (Chained-jobs d before was joined.finished joined.settled.behind joined.each joined.settled.chained) (ended all) xs put some in
+          let more = joined.settled.first 0 in
+          let many : counted (units j.net + length xs) ≤ sum_by handled joined.finished =
+          handled-all b j.net made.laws made.whole got put us joined.finished joined.settled.each (rows-finished d was joined.finished joined.each ∙ made.rows_are)
+          ran all xs more.0 more.1 fed in
           let rose : RoseBy (sum_by handled joined.finished) worked worked' =
           subst (λ n. RoseBy (sum_by handled joined.finished) worked n) (sym joined.work) (RoseBy-worked_after handled worked joined.finished) in
-          omega (arith, many, groups, made.number, took, rose, handled-jobs d before was joined.finished joined.settled.behind joined.each joined.settled.chained)
+          omega (arith, many, rose)

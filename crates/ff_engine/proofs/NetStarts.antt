@@ -1,31 +1,27 @@
 -- From a network that was checked to the jobs that stand for it.
-use Rattle.std.proofs.Common.{◌≡◌, ℕ, ◌+◌, ◌≤◌, Bool, false, List, [], ◌∷◌, ◌++◌, length, map, flat_map, refl, sym, ap, ap₂, ◌∙◌, inl, inr, subst, append-nil, arith}
-use Rattle.std.specs.Prelude.{◌||◌, Err}
-use Rattle.std.specs.List.{All}
-use Rattle.std.proofs.lemmas.Bool.{or_parts}
-use Rattle.std.proofs.lemmas.Grind.{flat_map-append}
-use Rattle.std.proofs.lemmas.List.{length-append, length-map, map-append}
-use Rattle.std.proofs.lemmas.List.Elements.{All-cons, All-head, All-nil, All-tail}
+use Rattle.std.proofs.Common.{◌≡◌, ℕ, Bool, false, List, [], ◌∷◌, length, map, refl, sym, ap, ◌∙◌, subst}
+use Rattle.std.specs.Prelude.{Err}
+use Rattle.std.specs.List.{All, AllZip}
+use Rattle.std.proofs.lemmas.List.{length-map}
+use Rattle.std.proofs.lemmas.List.Elements.{All-head, All-tail}
 use Rattle.ff_rec.specs.Lines.{text}
 use Rattle.ff_rec.specs.Streams.{items}
 use Rattle.ff_node.specs.Behaviour.{Behaviour, KeepsKind}
-use Rattle.ff_node.specs.Comb.{Part, comb_node, nodes_of, running}
+use Rattle.ff_node.specs.Comb.{comb_node, running}
 use Rattle.ff_node.specs.CombKindLaws.{comb_keeps_kind}
-use Rattle.ff_node.specs.CombLaws.{comb-is_pipeline}
 use Rattle.ff_net.specs.Counts.{units}
-use Rattle.ff_net.specs.Forms.{any_copies, has_copies}
-use Rattle.ff_net.specs.Good.{Good, GoodParts}
-use Rattle.ff_net.specs.Nodes.{groups_through, node_groups, nodes_in}
-use Rattle.ff_net.specs.Tree.{Tree, Trees, Leaf, Pipe, Comb, Farm, OFarm, A2a, Wrap, none, more}
+use Rattle.ff_net.specs.Forms.{has_copies}
+use Rattle.ff_net.specs.Nodes.{node_groups}
+use Rattle.ff_net.specs.Tree.{Tree}
 use Rattle.ff_net.specs.declared.net.Version.{Version}
-use Rattle.ff_net.proofs.NodeGroups.{has_wrap-whole, joined-node_groups, length-node_groups}
-use Rattle.ff_mean.specs.Pipelines.{ArePipelineOf, all_nodes}
-use Rattle.ff_mean.proofs.Groups.{ArePipelineOf-groups, ArePipelineOf-opened, nodes_of-running}
-use Rattle.ff_mean.proofs.Pipelines.{is_pipeline}
+use Rattle.ff_plan.specs.Laying.{units_of}
+use Rattle.ff_plan.specs.Plans.{rows_of}
+use Rattle.ff_plan.specs.Rows.{Laid, Row}
+use Rattle.ff_plan.proofs.LaidUnits.{length-rows_of}
 use Rattle.ff_spawn.specs.declared.fault.Denial.{Denial}
 use Rattle.ff_spawn.specs.declared.fault.Denial.TheVariants.{Refused, NoMemory}
 use Rattle.ff_steps.specs.Units.{opened_units}
-use Rattle.ff_stream.specs.Endings.{Ran}
+use Rattle.ff_steps.proofs.PlanStages.{AreStages, AreStages-lay}
 use Rattle.ff_stream.specs.Jobs.{Job, job}
 use Rattle.ff_stream.specs.Streams.{Streams}
 use Rattle.ff_stream.proofs.Endings.{IsCutShort-none}
@@ -35,16 +31,10 @@ use Rattle.ff_unit.specs.Units.{Ran as RanUnit}
 use Rattle.ff_engine.specs.Callers.{CallerState}
 use Rattle.ff_engine.specs.Faults.{denied}
 use Rattle.ff_engine.specs.Jobs.{JobState, IsOpened}
-use Rattle.ff_engine.specs.Lines.{Linked}
-use Rattle.ff_engine.specs.Networks.{UnitOf, AreJobsOf, HasFed, combs_of}
+use Rattle.ff_engine.specs.Networks.{UnitOf, HasFed, HasLaws}
 use Rattle.ff_engine.specs.Runs.{NetRan}
 use Rattle.ff_engine.specs.Starts.{IsPrepared}
 use Rattle.ff_engine.proofs.Stages.{IsOpened-stage}
-
--- the first of several
-pub All-front : {A : Type 0} (P : A → Type 0) (xs ys : List A) → All P (xs ++ ys) → All P xs
-All-front P [] ys all = All-nil P
-All-front P (x ∷ xs) ys all = All-cons P x xs (All-head P x (xs ++ ys) all) (All-front P xs ys (All-tail P x (xs ++ ys) all))
 
 -- a start that wasn't made leaves the streams
 pub NetRan-denied : {N : Type 0} (j : Job N) (s : Streams) (denial : Denial) → s.left_now ≡ s.left → s.faults_now ≡ s.faults → s.taken_now ≡ s.taken
@@ -56,68 +46,50 @@ module _ {N : Type 0} (b : Behaviour N) where
   abbrev RanNothing : UnitOf N → Type 0
   RanNothing u = RanUnit (stage_does (comb_node b)) u ([] ∷ []) ([] ∷ [])
 
-  -- the units of a network are opened
-  pub IsOpened-units : KeepsKind b → (keep : Bool) (groups : List (List N)) → All (λ u. RanUnit (stage_does (comb_node b)) u ([] ∷ []) ([] ∷ [])) (opened_units b keep groups)
-      → All (λ u. IsOpened (stage_does (comb_node b)) u) (opened_units b keep groups)
-  IsOpened-units kind keep [] ran = All-nil (λ u. IsOpened (stage_does (comb_node b)) u)
-  IsOpened-units kind keep (g ∷ groups) ran =
-      let first : UnitOf N = opened_stage (comb_node b) (running (map b.opening g)) keep in
-      All-cons (λ u. IsOpened (stage_does (comb_node b)) u) first (opened_units b keep groups)
-      (IsOpened-stage (comb_node b) (comb_keeps_kind b kind) (running (map b.opening g)) keep first refl (All-head RanNothing first (opened_units b keep groups) ran))
-      (IsOpened-units kind keep groups (All-tail RanNothing first (opened_units b keep groups) ran))
+  abbrev Opens : Row → UnitOf N → Type 0
+  Opens row u = IsOpened (stage_does (comb_node b)) row u
 
-  -- the nodes of the combs are those of the network, before their first records
-  all_nodes-combs_of : (groups : List (List N)) → all_nodes (combs_of b groups) ≡ map b.opening (flat_map (λ g. g) groups)
-  all_nodes-combs_of [] = refl
-  all_nodes-combs_of (g ∷ groups) =
-      ap₂ (λ os ps. os ++ ps) (nodes_of-running (map b.opening g)) (all_nodes-combs_of groups) ∙ sym (map-append b.opening g (flat_map (λ h. h) groups))
+  IsOpened-stages : KeepsKind b → (keep : Bool) (ls : List (Laid N)) (groups : List (List N)) → AreStages ls groups → All RanNothing (opened_units b keep groups)
+      → AllZip Opens (map (λ (l : Laid N). l.row) ls) (opened_units b keep groups)
+  IsOpened-stages kind keep [] [] are ran = tt
+  IsOpened-stages kind keep [] (g ∷ groups) are ran = absurd are
+  IsOpened-stages kind keep (l ∷ ls) [] are ran = absurd are
+  IsOpened-stages kind keep (l ∷ ls) (g ∷ groups) are ran =
+      let first : UnitOf N = opened_stage (comb_node b) (running (map b.opening g)) keep in (
+        subst (λ (x : Laid N). Opens x.row first) (sym are.0.is)
+            (IsOpened-stage (comb_node b) (comb_keeps_kind b kind) (running (map b.opening g)) keep first refl are.0.from are.0.to l.row.place
+            (All-head RanNothing first (opened_units b keep groups) ran)),
+        IsOpened-stages kind keep ls groups are.1 (All-tail RanNothing first (opened_units b keep groups) ran),
+      )
 
-  -- they stand for it
-  ArePipelineOf-combs : KeepsKind b → (t : Tree N) → has_copies t ≡ false → ArePipelineOf b t (comb_node b) (combs_of b (node_groups t))
-  ArePipelineOf-combs kind t whole =
-      ArePipelineOf-groups b t b (comb-is_pipeline b) (map b.opening (nodes_in t)) (combs_of b (node_groups t))
-      (all_nodes-combs_of (node_groups t) ∙ ap (map b.opening) (joined-node_groups t whole))
-      (ArePipelineOf-opened b kind t (map b.opening (nodes_in t)) (has_wrap-whole t whole) (is_pipeline b t (has_wrap-whole t whole)) refl)
-
-  -- there is one at least
-  mutual
-    some-groups : (t : Tree N) → Good b t → has_copies t ≡ false → 1 ≤ length (node_groups t)
-    some-groups (Leaf o) good whole = omega arith
-    some-groups (Comb ts) good whole = omega arith
-    some-groups (Pipe none) good whole = absurd (omega (arith, good.0.0))
-    some-groups (Pipe (more t ts)) good whole =
-        let first : has_copies t ≡ false = (or_parts (has_copies t) (any_copies ts) whole).0 in
-        omega (arith, some-groups t good.1.0 first, length-append (node_groups t) (groups_through ts))
-    some-groups (Farm n s w) good whole = absurd (cc)
-    some-groups (OFarm n s w) good whole = absurd (cc)
-    some-groups (A2a n l r m t) good whole = absurd (cc)
-    some-groups (Wrap n w p) good whole = absurd (cc)
+  -- the units of a network are opened, each with the ins and outs of its row
+  pub IsOpened-units : KeepsKind b → (keep : Bool) (t : Tree N) → has_copies t ≡ false
+      → All (λ u. RanUnit (stage_does (comb_node b)) u ([] ∷ []) ([] ∷ [])) (opened_units b keep (node_groups t))
+      → AllZip (λ row u. IsOpened (stage_does (comb_node b)) row u) (rows_of t) (opened_units b keep (node_groups t))
+  IsOpened-units kind keep t whole ran = IsOpened-stages kind keep (units_of t) (node_groups t) (AreStages-lay [] t 0 1 2 whole) ran
 
   -- nothing was put and nothing came, so no record was fed
-  pub HasFed-prepared : KeepsKind b → (t : Tree N) (version : Version) (limit : ℕ) (keep : Bool) → Good b t → has_copies t ≡ false
-      → (c c' : CallerState) (jobs crew : List (JobState (UnitOf N))) (unit_room room : ℕ) → c' ≡ c → crew ≡ jobs
-      → (us' : List (UnitOf N)) (running : List (JobState (UnitOf N))) → IsPrepared b keep t c jobs us' unit_room running room
+  pub HasFed-prepared : (t : Tree N) (version : Version) (limit : ℕ) (keep : Bool) → HasLaws b t → has_copies t ≡ false
+      → (c c' : CallerState) (jobs crew : List (JobState (UnitOf N))) (unit_room room ins outs : ℕ) → c' ≡ c → crew ≡ jobs
+      → (us' : List (UnitOf N)) (running : List (JobState (UnitOf N))) → IsPrepared b keep t c jobs us' unit_room running room ins outs
       → HasFed b (job b t version limit keep) c' crew [] []
-  HasFed-prepared kind t version limit keep good whole c c' jobs crew unit_room room same started us' running prepared =
+  HasFed-prepared t version limit keep laws whole c c' jobs crew unit_room room ins outs same started us' running prepared =
       let j = job b t version limit keep in
       subst (λ s. HasFed b j s crew [] []) (sym same) (subst (λ js. HasFed b j c js [] []) (sym started) (record {
         put = prepared.put;
         linked = prepared.linked;
         shows = ap (λ ms. text (items ms)) prepared.got ∙ sym prepared.text;
         made = record {
+          does_is = refl;
+          whole = whole;
+          laws = laws;
           units_are = prepared.units_are;
-          stand = ArePipelineOf-combs kind t whole;
-          number = length-node_groups t whole;
-          some = some-groups t good whole;
+          rows_are = prepared.rows_are;
         };
       }))
 
-  abbrev comb_of : List N → List (Part N)
-  comb_of g = running (map b.opening g)
-
   -- as many jobs as units
-  pub length-prepared : (t : Tree N) (keep : Bool) → has_copies t ≡ false → (c : CallerState) (jobs : List (JobState (UnitOf N))) (unit_room room : ℕ)
-      (us : List (UnitOf N)) (running : List (JobState (UnitOf N))) → IsPrepared b keep t c jobs us unit_room running room → length jobs ≡ units t
-  length-prepared t keep whole c jobs unit_room room us running prepared =
-      sym (length-map jobs (λ job. job.unit)) ∙ ap length prepared.units_are
-      ∙ length-map (node_groups t) (λ g. opened_stage (comb_node b) (comb_of g) keep) ∙ length-node_groups t whole
+  pub length-prepared : (t : Tree N) (keep : Bool) (c : CallerState) (jobs : List (JobState (UnitOf N))) (unit_room room ins outs : ℕ)
+      (us : List (UnitOf N)) (running : List (JobState (UnitOf N))) → IsPrepared b keep t c jobs us unit_room running room ins outs → length jobs ≡ units t
+  length-prepared t keep c jobs unit_room room ins outs us running prepared =
+      sym (length-map jobs (λ job. job.row)) ∙ ap length prepared.rows_are ∙ length-rows_of t

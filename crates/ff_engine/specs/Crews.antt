@@ -2,7 +2,6 @@
 use Rattle.std.specs.Prelude.{◌≡◌, ℕ, List, map}
 use Rattle.std.specs.List.{AllZip}
 use Rattle.ff_node.specs.Runs.{Message}
-use Rattle.ff_ring.specs.Names.{RingName}
 use Rattle.ff_spawn.specs.Counts.{worked_after}
 use Rattle.ff_unit.specs.Units.{Doing}
 use Rattle.ff_engine.specs.Jobs.{JobState, handled, HasWorked}

@@ -1,6 +1,8 @@
 pub mod Ends
+pub mod Slots
 pub mod Jobs
 pub mod Lines
+pub mod Boards
 pub mod Crews
 pub mod Callers
 pub mod Seen

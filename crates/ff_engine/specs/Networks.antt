@@ -1,13 +1,17 @@
 -- The jobs that stand for a network, and how far a run by threads has come.
-use Rattle.std.specs.Prelude.{◌≡◌, ℕ, ◌+◌, ◌≤◌, List, ◌++◌, map, length}
+use Rattle.std.specs.Prelude.{◌≡◌, ℕ, ◌+◌, ◌≤◌, false, List, ◌++◌, map, length}
 use Rattle.ff_rec.specs.Lines.{Rec, text}
 use Rattle.ff_rec.specs.Streams.{items, carried}
-use Rattle.ff_node.specs.Behaviour.{Behaviour}
-use Rattle.ff_node.specs.Comb.{Part, comb_node, running}
-use Rattle.ff_mean.specs.Pipelines.{ArePipelineOf}
+use Rattle.ff_node.specs.Behaviour.{Behaviour, KeepsKind}
+use Rattle.ff_node.specs.Classes.{ClassLaw}
+use Rattle.ff_node.specs.Comb.{Part}
 use Rattle.ff_net.specs.Counts.{units}
+use Rattle.ff_net.specs.Forms.{has_copies}
+use Rattle.ff_net.specs.Good.{Good}
 use Rattle.ff_net.specs.Nodes.{node_groups}
 use Rattle.ff_net.specs.Tree.{Tree}
+use Rattle.ff_plan.specs.PlanLaws.{CutRuns, WholeRuns}
+use Rattle.ff_plan.specs.Plans.{rows_of}
 use Rattle.ff_spawn.specs.Counts.{RoseBy}
 use Rattle.ff_steps.specs.Units.{opened_units}
 use Rattle.ff_stream.specs.Jobs.{Job}
@@ -16,20 +20,25 @@ use Rattle.ff_engine.specs.Callers.{CallerState, Shows}
 use Rattle.ff_engine.specs.Jobs.{JobState}
 use Rattle.ff_engine.specs.Lines.{Linked}
 
--- a comb of each of these groups of nodes, before its first record
-abbrev pub combs_of : {N : Type 0} → Behaviour N → List (List N) → List (List (Part N))
-combs_of b groups = map (λ g. running (map b.opening g)) groups
-
 -- the state of a unit of the network
 abbrev pub UnitOf : Type 0 → Type 0
 UnitOf N = StageState (List (Part N))
 
--- these jobs were made of the network of a run
+-- the network keeps the rules, and the laws of its plan hold
+pub record HasLaws {N : Type 0} (b : Behaviour N) (net : Tree N) : Type 0 where
+  pub kind : KeepsKind b
+  pub class : (o : N) → ClassLaw b o (b.class o)
+  pub good : Good b net
+  pub whole_runs : (m : ℕ) → WholeRuns b m net
+  pub cut_runs : (m : ℕ) → CutRuns b m net
+
+-- these jobs were made of the network of a run, by its plan
 pub record AreJobsOf {N : Type 0} (b : Behaviour N) (j : Job N) (jobs : List (JobState (UnitOf N))) : Type 0 where
+  pub does_is : j.does ≡ b
+  pub whole : has_copies j.net ≡ false
+  pub laws : HasLaws b j.net
   pub units_are : map (λ job. job.unit) jobs ≡ opened_units b j.keep (node_groups j.net)
-  pub stand : ArePipelineOf j.does j.net (comb_node b) (combs_of b (node_groups j.net))
-  pub number : length (node_groups j.net) ≡ units j.net
-  pub some : 1 ≤ length (node_groups j.net)
+  pub rows_are : map (λ job. job.row) jobs ≡ rows_of j.net
 
 -- the records were put on the first ring, and these bytes were written of what came
 pub record HasFed {N : Type 0} (b : Behaviour N) (j : Job N) (c : CallerState) (jobs : List (JobState (UnitOf N))) (xs : List Rec) (front : List ℕ) : Type 0 where

@@ -4,22 +4,26 @@ use Rattle.ff_node.specs.Behaviour.{Behaviour}
 use Rattle.ff_node.specs.Comb.{comb_node}
 use Rattle.ff_net.specs.Nodes.{node_groups}
 use Rattle.ff_net.specs.Tree.{Tree}
+use Rattle.ff_plan.specs.Plans.{rows_of}
 use Rattle.ff_steps.specs.Units.{opened_units}
 use Rattle.ff_unit.specs.StageUnit.{stage_does}
 use Rattle.ff_engine.specs.Callers.{CallerState}
 use Rattle.ff_engine.specs.Jobs.{JobState, IsFresh}
-use Rattle.ff_engine.specs.Lines.{Linked}
+use Rattle.ff_engine.specs.Lines.{IsWired, Linked}
 use Rattle.ff_engine.specs.Networks.{UnitOf}
 
 -- a job for each unit of the network, none of which was started, between ends at which nothing happened; with room for the
--- jobs while they run, and for their units
+-- jobs while they run, for their units, and for the ends of all edges
 pub record IsPrepared {N : Type 0} (b : Behaviour N) (keep : Bool) (net : Tree N) (c : CallerState) (jobs : List (JobState (UnitOf N)))
-    (units : List (UnitOf N)) (unit_room : ℕ) (running : List (JobState (UnitOf N))) (room : ℕ) : Type 0 where
+    (units : List (UnitOf N)) (unit_room : ℕ) (running : List (JobState (UnitOf N))) (room ins outs : ℕ) : Type 0 where
   pub put : c.put ≡ []
   pub got : c.got ≡ []
   pub text : c.text ≡ []
   pub linked : Linked c.writes jobs c.reads
   pub units_are : map (λ job. job.unit) jobs ≡ opened_units b keep (node_groups net)
+  pub rows_are : map (λ job. job.row) jobs ≡ rows_of net
+  pub wired : IsWired (map (λ job. job.row) jobs) ins
+  pub places : outs ≡ ins
   pub fresh : All (λ job. IsFresh (stage_does (comb_node b)) job) jobs
   pub empty : units ≡ []
   pub roomy : length jobs ≤ unit_room

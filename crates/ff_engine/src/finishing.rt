@@ -15,7 +15,6 @@ ghost use Rattle.ff_engine.specs.Seen.{caller_of};
 
 use crate::NetJob;
 use crate::caller::Caller;
-use crate::laws::units_keep_laws;
 use crate::line::Line;
 use crate::report::{all_ended_by_eos, report_of};
 use ff_io::Sink;
@@ -47,15 +46,13 @@ impl<N: Node + Send + 'static, R: Wait + Drop + Send + 'static> Line<N, R> {
         ensures joins { JoinsOnly (S.refused by.old) (S.refused by.new) (S.starts by.old) (S.starts by.new)
             (S.worked by.old) (S.worked by.new) }
     {
-        units_keep_laws::<N>();
         let Line { caller, crew, rt } = self;
         let mut caller = caller;
         let shown = close(&mut caller, &rt, sink);
         caller.hand_over(&rt);
         let end = caller.end();
         let (first, last) = caller.into_ends();
-        let mut last = last;
-        let mut units = crew.join(first, &mut last, by);
+        let mut units = crew.join(first, last, by);
         conclude(alloc, shown, end, &mut units)
     }
 
@@ -69,13 +66,11 @@ impl<N: Node + Send + 'static, R: Wait + Drop + Send + 'static> Line<N, R> {
         ensures joins { JoinsOnly (S.refused by.old) (S.refused by.new) (S.starts by.old) (S.starts by.new)
             (S.worked by.old) (S.worked by.new) }
     {
-        units_keep_laws::<N>();
         let Line { caller, crew, rt } = self;
         let mut caller = caller;
         caller.stop(&rt);
         let (first, last) = caller.into_ends();
-        let mut last = last;
-        crew.join(first, &mut last, by);
+        crew.join(first, last, by);
     }
 }
 

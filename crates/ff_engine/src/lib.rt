@@ -1,12 +1,15 @@
 //! Networks by threads: each unit runs in a thread of its own, over rings.
 #![tactic(auto)]
 
+mod bells;
+mod board;
 mod caller;
 mod crew;
 mod fault;
 mod finishing;
 mod laws;
 mod line;
+mod linking;
 mod making;
 mod net_job;
 mod prepared;
@@ -14,6 +17,7 @@ mod report;
 mod run;
 mod running;
 mod settling;
+mod slots;
 mod starting;
 mod stepping;
 

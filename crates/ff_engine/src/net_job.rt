@@ -1,19 +1,16 @@
 // A unit in a thread of its own.
-ghost use Rattle.std.specs.Prelude.{◌≡◌, [], ◌∷◌, length, replicate, IfOk};
+ghost use Rattle.std.specs.Prelude.{◌≡◌, [], ◌∷◌, length, map, replicate};
 ghost use Rattle.ff_rec.specs.declared.msg.Msg.TheVariants.{Abort};
 ghost use Rattle.ff_ring.specs.Ends.{got_of, put_of, room_of, read_ring, written_ring};
-ghost use Rattle.ff_ring.specs.Names.{RingName};
-ghost use Rattle.ff_unit.specs.Units.{Ran};
-ghost use Rattle.ff_engine.specs.Lines.{JobPasses};
-ghost use Rattle.ff_engine.specs.Jobs.{IsFresh};
+ghost use Rattle.ff_engine.specs.Jobs.{IsFresh, IsOpened};
 
 use crate::stepping::run_unit;
+use ff_plan::UnitRow;
 use ff_port::OwnPorts;
-use ff_rec::{NoMemory, Record};
-use ff_ring::{Pause, RingIn, RingOut, settle};
+use ff_rec::Record;
+use ff_ring::{Pause, RingIn, RingOut};
 use ff_spawn::Job;
 use ff_unit::Unit;
-use std::alloc::Global;
 use std::marker::Model;
 use std::sync::Wait;
 
@@ -22,6 +19,8 @@ use std::sync::Wait;
 #[derive(Drop)]
 pub struct NetJob<U: Unit, R> {
     unit: U,
+    // The unit's row of the plan: the ends are those of its edges.
+    row: UnitRow,
     ports: OwnPorts<RingIn<Record>, RingOut<Record>, Record>,
     pause: Pause,
     // The right to wait.
@@ -38,6 +37,7 @@ impl<U: Unit, R> Model for NetJob<U, R> {
 
     ghost view = { λ j. record {
       unit = j.unit;
+      row = j.row;
       gots = map (λ i. got_of i) j.ports.ins.items;
       puts = map (λ o. put_of o) j.ports.outs.items;
       rooms = map (λ o. room_of o) j.ports.outs.items;
@@ -50,41 +50,42 @@ impl<U: Unit, R> Model for NetJob<U, R> {
 }
 
 impl<U: Unit, R: Drop> NetJob<U, R> {
-    /// A job of this unit between one in and one out, at which nothing was taken or put.
+    /// A job of this unit between these ends, at which nothing was taken or put: those of the edges of its row.
     pub(crate) fn new(
-        alloc: Global,
         unit: U,
-        inn: RingIn<Record>,
-        out: RingOut<Record>,
+        row: UnitRow,
+        ins: Vec<RingIn<Record>>,
+        outs: Vec<RingOut<Record>>,
         pause: Pause,
         rt: R,
-    ) -> Result<NetJob<U, R>, NoMemory>
-        requires got { got_of inn ≡ [] }
-        requires put { put_of out ≡ [] }
-        requires ran { Ran U.does unit ([] ∷ []) ([] ∷ []) }
-        ensures { IfOk result (λ job. job ≡ record {
+    ) -> NetJob<U, R>
+        requires opened { IsOpened U.does row unit }
+        requires gots { map (λ i. got_of i) ins.items ≡ replicate (length row.ins) [] }
+        requires puts { map (λ o. put_of o) outs.items ≡ replicate (length row.outs) [] }
+        ensures { result ≡ record {
           unit = unit;
-          gots = [] ∷ [];
-          puts = [] ∷ [];
-          rooms = room_of out ∷ [];
-          reads = read_ring inn ∷ [];
-          writes = written_ring out ∷ [];
-        }) }
+          row = row;
+          gots = replicate (length row.ins) [];
+          puts = replicate (length row.outs) [];
+          rooms = map (λ o. room_of o) outs.items;
+          reads = map (λ i. read_ring i) ins.items;
+          writes = map (λ o. written_ring o) outs.items;
+        } }
     {
-        let ins = Vec::from_array(alloc, [inn])?;
-        let outs = Vec::from_array(alloc, [out])?;
-        Ok(NetJob {
+        NetJob {
             unit,
+            row,
             ports: OwnPorts::new(ins, outs),
             pause,
             rt,
-        })
+        }
     }
 
     /// Ends the unit before its first step: Abort is put on each out.
     pub(crate) fn abort(&mut self)
         requires { IsFresh U.does self.old }
         ensures unit { self.new.unit ≡ U.does.aborted self.old.unit }
+        ensures row { self.new.row ≡ self.old.row }
         ensures gots { self.new.gots ≡ self.old.gots }
         ensures puts { self.new.puts ≡ replicate (U.does.outs self.old.unit) (Abort ∷ []) }
         ensures reads { self.new.reads ≡ self.old.reads }
@@ -93,33 +94,23 @@ impl<U: Unit, R: Drop> NetJob<U, R> {
         self.unit.abort(&mut self.ports);
     }
 
-    /// Takes the job apart once its thread has ended, beside the writing end of the ring that it read:
-    /// the unit took the first of what was put there. Its own out is handed on.
-    pub(crate) fn settle(self, before: RingOut<Record>) -> (U, RingOut<Record>)
-        requires reads { self.reads ≡ written_ring before ∷ [] }
-        requires writes { (out : RingName) × (self.writes ≡ out ∷ []) }
+    /// Takes the job apart: its unit, its row, and its ends.
+    pub(crate) fn into_parts(self) -> (U, UnitRow, Vec<RingIn<Record>>, Vec<RingOut<Record>>)
         ensures unit { result.0 ≡ self.unit }
-        ensures passes { JobPasses (put_of before) self (put_of result.1) }
-        ensures writes { self.writes ≡ written_ring result.1 ∷ [] }
+        ensures row { result.1 ≡ self.row }
+        ensures gots { map (λ i. got_of i) result.2.items ≡ self.gots }
+        ensures puts { map (λ o. put_of o) result.3.items ≡ self.puts }
+        ensures reads { map (λ i. read_ring i) result.2.items ≡ self.reads }
+        ensures writes { map (λ o. written_ring o) result.3.items ≡ self.writes }
     {
-        let NetJob { unit, ports, .. } = self;
+        let NetJob {
+            unit,
+            row,
+            ports,
+            ..
+        } = self;
         let (ins, outs) = ports.into_ends();
-        let mut before = before;
-        let mut inn = only(ins);
-        settle(&mut before, &mut inn);
-        (unit, only(outs))
-    }
-}
-
-// The one end of a list.
-fn only<T: Drop>(ends: Vec<T>) -> T
-    requires { length ends.items ≡ 1 }
-    ensures { ends.items ≡ result ∷ [] }
-{
-    let mut ends = ends;
-    match ends.pop() {
-        Some(end) => end,
-        None => unreachable!(),
+        (unit, row, ins, outs)
     }
 }
 

@@ -1,5 +1,6 @@
 // The threads of a network before they are started.
 use crate::NetJob;
+use crate::board::Board;
 use crate::caller::Caller;
 use ff_spawn::RunningJobs;
 use ff_unit::Unit;
@@ -9,6 +10,8 @@ use std::sync::Wait;
 pub(crate) struct Prepared<U: Unit, R: Wait + Drop> {
     pub(crate) caller: Caller,
     pub(crate) jobs: Vec<NetJob<U, R>>,
+    // The places of the jobs' ends.
+    pub(crate) board: Board,
     // Room for the units, once their threads have ended.
     pub(crate) units: Vec<U>,
     pub(crate) running: RunningJobs<NetJob<U, R>>,

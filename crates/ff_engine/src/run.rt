@@ -10,14 +10,13 @@ ghost use Rattle.ff_stream.specs.Jobs.{job};
 ghost use Rattle.ff_stream.specs.Streams.{streams};
 ghost use Rattle.ff_engine.specs.Runs.{NetRan, CountsNetInput, refused_count, net_output_count};
 
-use crate::laws::units_keep_laws;
+use crate::laws::plans_keep_laws;
 use crate::line::Line;
 use crate::running::run_line;
 use crate::starting::{prepare, start};
 use crate::{NetFault, NetJob};
 use ff_io::{Sink, Source};
 use ff_net::Checked;
-use ff_net::laws::checked_networks_are_good;
 use ff_node::{Comb, Node};
 use ff_spawn::Spawner;
 use ff_stream::{Ending, RunFault};
@@ -66,8 +65,7 @@ pub fn run_net<
     ensures input_faults { CountsNetInput (I.faults source.old) (I.faults source.new) result }
     ensures output_faults { O.faults sink.new ≡ net_output_count (O.faults sink.old) result }
 {
-    checked_networks_are_good(checked);
-    units_keep_laws::<N>();
+    plans_keep_laws(checked);
     let Ok(prepared) = prepare(rt, alloc, checked, cap, keep) else {
         return Err(NetFault::Run(RunFault::NoMemory));
     };

@@ -1,27 +1,30 @@
 // How the units of a network come into threads.
-ghost use Rattle.std.specs.Prelude.{◌≡◌, ◌≤◌, ◌+◌, [], false, length, vec_len, vec_capacity, All, IfOk, OnOk};
+ghost use Rattle.std.specs.Prelude.{◌≡◌, ◌≤◌, ◌+◌, [], false, length, map, vec_len, vec_capacity, All, IfOk, OnOk};
 ghost use Rattle.ff_net.specs.Forms.{has_copies};
 ghost use Rattle.ff_net.specs.Tree.{tree_of};
 ghost use Rattle.ff_spawn.specs.Counts.{count_more, denied_after};
 ghost use Rattle.ff_engine.specs.Jobs.{IsFresh};
+ghost use Rattle.ff_engine.specs.Lines.{IsWired};
 ghost use Rattle.ff_engine.specs.Starts.{IsPrepared};
 ghost use Rattle.ff_engine.specs.Seen.{caller_of};
 
 use crate::NetJob;
+use crate::bells::Bells;
 use crate::caller::Caller;
 use crate::crew::Crew;
-use crate::laws::units_keep_laws;
-use crate::making::{make_bells, make_line};
+use crate::laws::{plans_are_wired, units_keep_laws};
+use crate::linking::{Network, link_units};
 use crate::prepared::Prepared;
 use ff_net::Checked;
 use ff_node::{Comb, Node};
+use ff_plan::{Queue, plan};
 use ff_rec::NoMemory;
-use ff_ring::{Bell, Pause};
+use ff_ring::Pause;
 use ff_spawn::{Denial, RunningJobs, Spawner};
 use ff_steps::make_units;
 use ff_unit::{Stage, Unit};
 use std::alloc::Global;
-use std::sync::{Arc, Wait};
+use std::sync::Wait;
 
 /// Takes all memory that the threads of a network need to be started and joined.
 pub(crate) fn prepare<N: Node + Send + 'static, R: Wait + Clone + Drop + Send + 'static>(
@@ -35,19 +38,29 @@ pub(crate) fn prepare<N: Node + Send + 'static, R: Wait + Clone + Drop + Send + 
     requires low { 1 ≤ cap }
     requires high { cap ≤ 4096 }
     ensures { IfOk result (λ p. IsPrepared N.does keep (tree_of checked.now.net) (caller_of p.caller)
-        p.jobs.items p.units.items (vec_capacity p.units) p.running.jobs p.running.room) }
+        p.jobs.items p.units.items (vec_capacity p.units) p.running.jobs p.running.room
+        (length p.board.ins.items) (length p.board.outs.items)) }
 {
     units_keep_laws::<N>();
+    plans_are_wired(checked);
     let units = make_units(alloc, checked, keep)?;
     let room = Vec::with_capacity(alloc, units.len())?;
-    let bells = make_bells(alloc, units.len())?;
-    let own = Arc::new(alloc, Bell::new())?;
-    let (first, jobs, last) = make_line(alloc, units, cap as usize, rt, &bells, &own)?;
+    let bells = Bells::new(alloc, units.len())?;
+    let (rows, edges) = plan(alloc, checked, cap, Queue::Ring)?.into_parts();
+    let network = link_units(alloc, units, rows, &edges, &bells, rt)?;
+    let Network {
+        first,
+        jobs,
+        last,
+        board,
+    } = network;
     let waits = rt.clone()?;
     let running = RunningJobs::with_capacity(alloc, jobs.len())?;
+    let Bells { own, units: others } = bells;
     Ok(Prepared {
-        caller: Caller::new(alloc, first, last, Pause::new(own), bells),
+        caller: Caller::new(alloc, first, last, Pause::new(own), others),
         jobs,
+        board,
         units: room,
         running,
         rt: waits,
@@ -70,6 +83,9 @@ pub(crate) fn start<
     requires room { length prepared.jobs.items ≤ prepared.running.room }
     requires empty { prepared.units.items ≡ [] }
     requires unit_room { length prepared.jobs.items ≤ vec_capacity prepared.units }
+    requires wired { IsWired (map (λ job. job.row) prepared.jobs.items)
+        (length prepared.board.ins.items) }
+    requires places { length prepared.board.outs.items ≡ length prepared.board.ins.items }
     ensures caller { IfOk result (λ s. caller_of s.0 ≡ caller_of prepared.caller) }
     ensures crew { IfOk result (λ s. s.1 ≡ prepared.jobs.items) }
     ensures refused { S.refused spawner.new ≡ denied_after (S.refused spawner.old) result }
@@ -80,12 +96,13 @@ pub(crate) fn start<
     let Prepared {
         mut caller,
         mut jobs,
+        board,
         units,
         mut running,
         rt: waits,
     } = prepared;
     match running.start_all(alloc, spawner, &mut jobs) {
-        Ok(()) => Ok((caller, Crew::new(running, jobs, units), waits)),
+        Ok(()) => Ok((caller, Crew::new(running, jobs, units, board), waits)),
         Err(denial) => {
             break_up(&mut caller, rt, running, jobs, spawner);
             Err(denial)

@@ -1,5 +1,5 @@
 -- The network was prepared, its threads were started, and the stream went through them.
-use Rattle.std.proofs.Common.{◌≡◌, ◌+◌, length, refl, sym, ap, ◌∙◌, subst}
+use Rattle.std.proofs.Common.{◌≡◌, ◌+◌, length, refl, sym, ◌∙◌, subst}
 use Rattle.ff_net.specs.Counts.{units}
 use Rattle.ff_net.specs.Tree.{tree_of}
 use Rattle.ff_spawn.specs.Counts.{RoseBy}
@@ -21,8 +21,8 @@ run_line-requires-after_bounds g c κs within =
     let p = c.in-Ok.prepared in (
       job g.N.Node.does (tree_of net.net) net.version 1 c.args.keep,
       sym c.version.ensures,
-      HasFed-prepared g.N.Node.does c.units_keep_laws.ensures.node (tree_of net.net) net.version 1 c.args.keep c.checked_networks_are_good.ensures.good c.requires.runs
-          (caller_of p.caller) (caller_of c.in-Ok-start.caller) p.jobs.items c.in-Ok-start.crew _ _ c.in-Ok-start.ensures.caller c.in-Ok-start.ensures.crew _ _ c.in-Ok.ensures,
+      HasFed-prepared g.N.Node.does (tree_of net.net) net.version 1 c.args.keep c.plans_keep_laws.ensures c.requires.runs
+          (caller_of p.caller) (caller_of c.in-Ok-start.caller) p.jobs.items c.in-Ok-start.crew _ _ _ _ c.in-Ok-start.ensures.caller c.in-Ok-start.ensures.crew _ _ c.in-Ok.ensures,
     )
 
 pub returns-in-Ok-run_line-clause-run : goal.returns-in-Ok-run_line-clause-run
@@ -30,8 +30,8 @@ returns-in-Ok-run_line-clause-run g c = λ limit.
     let net = c.args.checked.now in
     let p = c.in-Ok.prepared in
     c.in-Ok-run_line.ensures.run (job g.N.Node.does (tree_of net.net) net.version limit c.args.keep) (sym c.version.ensures)
-    (HasFed-prepared g.N.Node.does c.units_keep_laws.ensures.node (tree_of net.net) net.version limit c.args.keep c.checked_networks_are_good.ensures.good c.requires.runs
-    (caller_of p.caller) (caller_of c.in-Ok-start.caller) p.jobs.items c.in-Ok-start.crew _ _ c.in-Ok-start.ensures.caller c.in-Ok-start.ensures.crew _ _ c.in-Ok.ensures)
+    (HasFed-prepared g.N.Node.does (tree_of net.net) net.version limit c.args.keep c.plans_keep_laws.ensures c.requires.runs
+    (caller_of p.caller) (caller_of c.in-Ok-start.caller) p.jobs.items c.in-Ok-start.crew _ _ _ _ c.in-Ok-start.ensures.caller c.in-Ok-start.ensures.crew _ _ c.in-Ok.ensures)
 
 pub returns-in-Ok-run_line-clause-work : goal.returns-in-Ok-run_line-clause-work
 returns-in-Ok-run_line-clause-work g c = λ limit.
@@ -42,8 +42,8 @@ returns-in-Ok-run_line-clause-work g c = λ limit.
     let worked = g.S.Refusals.worked c.run_line.new.spawner in
     subst (λ n. Told j s (λ xs. RoseBy (units (tree_of net.net) + length xs) n worked) c.in-Ok-run_line.ending) c.in-Ok-start.ensures.worked
     (c.in-Ok-run_line.ensures.work j (sym c.version.ensures)
-    (HasFed-prepared g.N.Node.does c.units_keep_laws.ensures.node (tree_of net.net) net.version limit c.args.keep c.checked_networks_are_good.ensures.good c.requires.runs
-    (caller_of p.caller) (caller_of c.in-Ok-start.caller) p.jobs.items c.in-Ok-start.crew _ _ c.in-Ok-start.ensures.caller c.in-Ok-start.ensures.crew _ _ c.in-Ok.ensures))
+    (HasFed-prepared g.N.Node.does (tree_of net.net) net.version limit c.args.keep c.plans_keep_laws.ensures c.requires.runs
+    (caller_of p.caller) (caller_of c.in-Ok-start.caller) p.jobs.items c.in-Ok-start.crew _ _ _ _ c.in-Ok-start.ensures.caller c.in-Ok-start.ensures.crew _ _ c.in-Ok.ensures))
 
 pub returns-in-Ok-run_line-clause-starts : goal.returns-in-Ok-run_line-clause-starts
 returns-in-Ok-run_line-clause-starts g c =
@@ -52,7 +52,7 @@ returns-in-Ok-run_line-clause-starts g c =
     let old = g.S.Refusals.starts c.args.spawner.now in
     let now = g.S.Refusals.starts c.run_line.new.spawner in
     let number : length p.jobs.items ≡ units net =
-    length-prepared g.N.Node.does net c.args.keep c.requires.runs (caller_of p.caller) p.jobs.items _ _ _ _ c.in-Ok.ensures in
+    length-prepared g.N.Node.does net c.args.keep (caller_of p.caller) p.jobs.items _ _ _ _ _ _ c.in-Ok.ensures in
     subst (λ k. RoseBy k old now) number
     (subst (λ m. RoseBy (length p.jobs.items) old m) (sym (c.in-Ok-run_line.ensures.joins.starts_are ∙ c.in-Ok-start.ensures.starts)) (RoseBy-count_more old p.jobs.items))
 
@@ -61,8 +61,8 @@ returns-in-Err-run_line-clause-run g c = λ limit.
     let net = c.args.checked.now in
     let p = c.in-Ok.prepared in
     c.in-Err-run_line.ensures.run (job g.N.Node.does (tree_of net.net) net.version limit c.args.keep) (sym c.version.ensures)
-    (HasFed-prepared g.N.Node.does c.units_keep_laws.ensures.node (tree_of net.net) net.version limit c.args.keep c.checked_networks_are_good.ensures.good c.requires.runs
-    (caller_of p.caller) (caller_of c.in-Ok-start.caller) p.jobs.items c.in-Ok-start.crew _ _ c.in-Ok-start.ensures.caller c.in-Ok-start.ensures.crew _ _ c.in-Ok.ensures)
+    (HasFed-prepared g.N.Node.does (tree_of net.net) net.version limit c.args.keep c.plans_keep_laws.ensures c.requires.runs
+    (caller_of p.caller) (caller_of c.in-Ok-start.caller) p.jobs.items c.in-Ok-start.crew _ _ _ _ c.in-Ok-start.ensures.caller c.in-Ok-start.ensures.crew _ _ c.in-Ok.ensures)
 
 pub returns-in-Err-clause-run : goal.returns-in-Err-clause-run
 returns-in-Err-clause-run g c = rw c.into.ensures (λ limit. NetRan-denied _ _ c.in-Err.denial refl refl refl)

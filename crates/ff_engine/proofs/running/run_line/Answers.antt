@@ -1,4 +1,5 @@
 -- The stream was taken in and the threads were ended, or it came to a halt and they were given up.
+use Rattle.std.proofs.Common.{inl, inr}
 use Rattle.ff_stream.specs.Endings.{records_of}
 use Rattle.ff_stream.specs.Streams.{streams}
 use Rattle.ff_stream.specs.declared.fault.Halt.TheVariants.{NoMemory}
@@ -8,6 +9,16 @@ use Rattle.ff_engine.specs.Networks.{HasFed, HasStopped, WorkedThrough}
 use Rattle.ff_engine.specs.Seen.{caller_of}
 use Rattle.ff_engine.proofs.LineEnds.{HasStopped-fed}
 use Rattle.ff_engine.proofs.running.run_line.Goals as goal
+
+pub finish-requires-after_bounds : goal.finish-requires-after_bounds
+finish-requires-after_bounds g c κs within = (c.in-Ok.ensures.ok c.requires.0 c.requires.1 c.requires.2).stands_so.linked
+
+pub give_up-requires-after_bounds : goal.give_up-requires-after_bounds
+give_up-requires-after_bounds g c κs within =
+    elim (c.in-Err.ensures.err c.requires.0 c.requires.1 c.requires.2).left [
+      | inl stands ↦ stands.1.linked
+      | inr broken ↦ broken.linked
+    ]
 
 pub returns-in-Ok-finish-clause-run : goal.returns-in-Ok-finish-clause-run
 returns-in-Ok-finish-clause-run g c =

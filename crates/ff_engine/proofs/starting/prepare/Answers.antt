@@ -1,19 +1,79 @@
--- Each unit is opened.
-use Rattle.std.proofs.Common.{[], ◌∷◌, sym, subst}
-use Rattle.std.specs.List.{All}
+-- Each unit is opened, and the plan is wired.
+use Rattle.std.proofs.Common.{◌≡◌, ◌≤◌, ◌∙◌, [], ◌∷◌, length, sym, ap, subst, arith}
+use Rattle.std.proofs.lemmas.List.{length-map}
+use Rattle.std.specs.List.{All, AllZip}
 use Rattle.ff_node.specs.Comb.{comb_node}
-use Rattle.ff_net.specs.Nodes.{node_groups}
+use Rattle.ff_net.specs.Counts.{edges}
 use Rattle.ff_net.specs.Tree.{tree_of}
+use Rattle.ff_plan.specs.Plans.{Plan, rows_of}
+use Rattle.ff_plan.specs.Rows.{range}
+use Rattle.ff_plan.specs.declared.kind.Queue.TheVariants.{Ring}
+use Rattle.ff_plan.specs.declared.layout.Edge.{Edge}
 use Rattle.ff_unit.specs.StageUnit.{stage_does}
 use Rattle.ff_unit.specs.Units.{Ran}
-use Rattle.ff_engine.specs.Jobs.{IsOpened}
+use Rattle.ff_spawn.specs.Lists.{Crew}
+use Rattle.ff_engine.specs.Callers.{CallerState}
+use Rattle.ff_engine.specs.Jobs.{JobState, IsOpened}
+use Rattle.ff_engine.specs.Lines.{IsWired, Linked}
+use Rattle.ff_engine.specs.Networks.{UnitOf}
 use Rattle.ff_engine.proofs.NetStarts.{IsOpened-units}
+use Rattle.ff_engine.proofs.PlanEdges.{high-caps, length-edges, low-caps}
 use Rattle.ff_engine.proofs.starting.prepare.Goals as goal
 
-pub make_line-requires-clause-units : goal.make_line-requires-clause-units
-make_line-requires-clause-units g c =
+pub link_units-requires-clause-opened : goal.link_units-requires-clause-opened
+link_units-requires-clause-opened g c =
     let b = g.N.Node.does in
+    let t = tree_of c.args.checked.now.net in
     let are = c.in_ok-units.ensures.units in
-    subst (λ us. All (λ u. IsOpened (stage_does (comb_node b)) u) us) (sym are)
-    (IsOpened-units b c.units_keep_laws.ensures.node c.args.keep (node_groups (tree_of c.args.checked.now.net))
-    (subst (λ us. All (λ u. Ran (stage_does (comb_node b)) u ([] ∷ []) ([] ∷ [])) us) are c.in_ok-units.ensures.ran))
+    let rows : c.into_parts-rows.result.0.items ≡ rows_of t = c.into_parts-rows.ensures.units ∙ ap (λ (p : Plan). p.units) c.in_ok-plan.ensures in
+    subst (λ rs. AllZip (λ r u. IsOpened (stage_does (comb_node b)) r u) rs c.in_ok-units.units.items) (sym rows)
+    (subst (λ us. AllZip (λ r u. IsOpened (stage_does (comb_node b)) r u) (rows_of t) us) (sym are)
+    (IsOpened-units b c.units_keep_laws.ensures.node c.args.keep t c.requires.runs
+    (subst (λ us. All (λ u. Ran (stage_does (comb_node b)) u ([] ∷ []) ([] ∷ [])) us) are c.in_ok-units.ensures.ran)))
+
+pub link_units-requires-clause-wired : goal.link_units-requires-clause-wired
+link_units-requires-clause-wired g c =
+    let t = tree_of c.args.checked.now.net in
+    let rows : c.into_parts-rows.result.0.items ≡ rows_of t = c.into_parts-rows.ensures.units ∙ ap (λ (p : Plan). p.units) c.in_ok-plan.ensures in
+    let many : length c.deref.result.now ≡ edges t =
+    ap length (c.deref.ensures.value ∙ c.into_parts-rows.ensures.edges ∙ ap (λ (p : Plan). p.edges) c.in_ok-plan.ensures) ∙ length-edges (rows_of t) c.args.cap Ring (edges t) in
+    subst (λ rs. IsWired rs (length c.deref.result.now)) (sym rows) (subst (λ n. IsWired (rows_of t) n) (sym many) c.plans_are_wired.ensures)
+
+pub link_units-requires-clause-low : goal.link_units-requires-clause-low
+link_units-requires-clause-low g c =
+    let t = tree_of c.args.checked.now.net in
+    subst (λ es. All (λ (edge : Edge). 1 ≤ edge.cap) es)
+    (sym (c.deref.ensures.value ∙ c.into_parts-rows.ensures.edges ∙ ap (λ (p : Plan). p.edges) c.in_ok-plan.ensures))
+    (low-caps (rows_of t) c.args.cap Ring c.requires.low (range 0 (edges t)))
+
+pub link_units-requires-clause-high : goal.link_units-requires-clause-high
+link_units-requires-clause-high g c =
+    let t = tree_of c.args.checked.now.net in
+    subst (λ es. All (λ (edge : Edge). edge.cap ≤ 4096) es)
+    (sym (c.deref.ensures.value ∙ c.into_parts-rows.ensures.edges ∙ ap (λ (p : Plan). p.edges) c.in_ok-plan.ensures))
+    (high-caps (rows_of t) c.args.cap Ring c.requires.high (range 0 (edges t)))
+
+pub returns : goal.returns
+returns g c =
+    let t = tree_of c.args.checked.now.net in
+    let made = c.in_ok-network.ensures in
+    let jobs = c.in_ok-network.network.jobs.items in
+    let rows : c.into_parts-rows.result.0.items ≡ rows_of t = c.into_parts-rows.ensures.units ∙ ap (λ (p : Plan). p.units) c.in_ok-plan.ensures in
+    let many : length c.deref.result.now ≡ edges t =
+    ap length (c.deref.ensures.value ∙ c.into_parts-rows.ensures.edges ∙ ap (λ (p : Plan). p.edges) c.in_ok-plan.ensures) ∙ length-edges (rows_of t) c.args.cap Ring (edges t) in
+    let number : length jobs ≡ length c.in_ok-units.units.items = sym (length-map jobs (λ job. job.unit)) ∙ ap length made.units in record {
+      put = ap (λ (s : CallerState). s.put) c.new-3.ensures ∙ made.put;
+      got = ap (λ (s : CallerState). s.got) c.new-3.ensures ∙ made.got;
+      text = ap (λ (s : CallerState). s.text) c.new-3.ensures;
+      linked = subst (λ (s : CallerState). Linked s.writes jobs s.reads) (sym c.new-3.ensures) made.linked;
+      units_are = made.units ∙ c.in_ok-units.ensures.units;
+      rows_are = made.rows ∙ rows;
+      wired = subst (λ rs. IsWired rs (length c.in_ok-network.network.board.ins.items)) (sym (made.rows ∙ rows))
+          (subst (λ n. IsWired (rows_of t) n) (sym (made.ins ∙ many)) c.plans_are_wired.ensures);
+      places = made.outs ∙ sym made.ins;
+      fresh = made.fresh;
+      empty = c.in_ok-room.ensures.items;
+      roomy = omega (arith, number, c.len.ensures, c.in_ok-room.ensures.capacity, c.in_ok-units.units.ok.0);
+      none = ap (λ (r : Crew (JobState (UnitOf g.row.N.Denot))). r.jobs) c.in_ok-running.ensures;
+      many = omega (arith, ap (λ (r : Crew (JobState (UnitOf g.row.N.Denot))). r.room) c.in_ok-running.ensures, c.len-3.ensures, c.in_ok-network.network.jobs.ok.0);
+    }

@@ -2,7 +2,7 @@
 use Rattle.std.proofs.Common.{sym, subst}
 use Rattle.std.specs.List.{All}
 use Rattle.ff_engine.specs.Jobs.{IsFresh}
-use Rattle.ff_engine.proofs.NetStarts.{All-front}
+use Rattle.ff_engine.proofs.SlotLaws.{All-front}
 use Rattle.ff_engine.proofs.starting.start.Goals as goal
 
 pub break_up-requires-clause-fresh : goal.break_up-requires-clause-fresh

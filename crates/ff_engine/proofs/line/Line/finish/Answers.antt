@@ -1,5 +1,5 @@
 -- The stream came to its end, or it broke off.
-use Rattle.std.proofs.Common.{ap, ◌∙◌, subst, None}
+use Rattle.std.proofs.Common.{ap, ◌∙◌, subst}
 use Rattle.ff_ring.specs.Ends.{got_of, put_of}
 use Rattle.ff_engine.specs.Callers.{EndsWithEos}
 use Rattle.ff_engine.specs.Seen.{caller_of}
@@ -12,14 +12,12 @@ close-shown-requires g c = IsOpen-put (caller_of c.args.self.caller).put c.args.
 pub returns-clause-ends : goal.returns-clause-ends
 returns-clause-ends g c =
     let b = g.N.Node.does in
-    let kind = c.units_keep_laws.ensures.comb in
-    let facts = c.units_keep_laws.ensures.unit in
     let shown = c.close-shown in
     λ j xs front at.
-    Ends-concluded b kind facts j (caller_of c.args.self.caller) (caller_of shown.new.caller) c.args.self.crew xs front at
-    (put_of c.into_ends-first.result.0) c.join-units.result.items (got_of c.join-units.new.last) _ _ c.join-units.ensures.joined
+    Ends-concluded b j (caller_of c.args.self.caller) (caller_of shown.new.caller) c.args.self.crew xs front at
+    (put_of c.into_ends-first.result.0) c.join-units.result.items (got_of c.into_ends-first.result.1) _ _ c.join-units.ensures.joined
     (c.into_ends-first.ensures.put ∙ ap (λ s. s.put) c.hand_over.ensures)
-    (c.join-units.ensures.got ∙ c.into_ends-first.ensures.got ∙ ap (λ s. s.got) c.hand_over.ensures) _ _
+    (c.into_ends-first.ensures.got ∙ ap (λ s. s.got) c.hand_over.ensures) _ _
     shown.result c.end-end.result c.conclude.result c.conclude.ensures
     (λ eos. subst (λ s. EndsWithEos s.got) c.hand_over.ensures (c.end-end.ensures.eos eos))
     shown.ensures.put shown.ensures.goes.moves shown.ensures.written shown.ensures.ends shown.ensures.goes.breaks
@@ -27,11 +25,9 @@ returns-clause-ends g c =
 pub returns-clause-work : goal.returns-clause-work
 returns-clause-work g c =
     let b = g.N.Node.does in
-    let kind = c.units_keep_laws.ensures.comb in
-    let facts = c.units_keep_laws.ensures.unit in
     let shown = c.close-shown in
-    WorkedThrough-all b kind facts (caller_of c.args.self.caller) (caller_of shown.new.caller) c.args.self.crew
-    (put_of c.into_ends-first.result.0) c.join-units.result.items (got_of c.join-units.new.last) _ _ c.join-units.ensures.joined
+    WorkedThrough-all b (caller_of c.args.self.caller) (caller_of shown.new.caller) c.args.self.crew
+    (put_of c.into_ends-first.result.0) c.join-units.result.items (got_of c.into_ends-first.result.1) _ _ c.join-units.ensures.joined
     (c.into_ends-first.ensures.put ∙ ap (λ s. s.put) c.hand_over.ensures)
-    (c.join-units.ensures.got ∙ c.into_ends-first.ensures.got ∙ ap (λ s. s.got) c.hand_over.ensures)
+    (c.into_ends-first.ensures.got ∙ ap (λ s. s.got) c.hand_over.ensures)
     shown.result c.end-end.result c.conclude.result c.conclude.ensures shown.ensures.put

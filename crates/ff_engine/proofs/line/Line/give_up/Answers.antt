@@ -1,5 +1,4 @@
 -- Abort was put behind the records.
-use Rattle.std.proofs.Common.{◌∙◌}
 use Rattle.ff_ring.specs.Ends.{got_of, put_of}
 use Rattle.ff_engine.specs.Seen.{caller_of}
 use Rattle.ff_engine.proofs.LineEnds.{IsOpen-put, IsOpen-stopped}
@@ -11,9 +10,7 @@ stop-requires g c = IsOpen-put (caller_of c.args.self.caller).put c.args.self.op
 pub returns-clause-opens : goal.returns-clause-opens
 returns-clause-opens g c =
     let b = g.N.Node.does in
-    let kind = c.units_keep_laws.ensures.comb in
-    let facts = c.units_keep_laws.ensures.unit in
     λ j halt xs front at.
-    IsOpen-stopped b kind facts j halt (caller_of c.args.self.caller) (caller_of c.stop.new.self) c.args.self.crew xs front at
-    (put_of c.into_ends-first.result.0) c.join.result.items (got_of c.join.new.last) _ _ c.join.ensures.joined
-    c.into_ends-first.ensures.put (c.join.ensures.got ∙ c.into_ends-first.ensures.got) c.stop.ensures.put c.stop.ensures.more
+    IsOpen-stopped b j halt (caller_of c.args.self.caller) (caller_of c.stop.new.self) c.args.self.crew xs front at
+    (put_of c.into_ends-first.result.0) c.join.result.items (got_of c.into_ends-first.result.1) _ _ c.join.ensures.joined
+    c.into_ends-first.ensures.put c.into_ends-first.ensures.got c.stop.ensures.put c.stop.ensures.more

@@ -1,0 +1,18 @@
+-- The jobs that are left are the first of those that made no step.
+use Rattle.std.proofs.Common.{◌∙◌, subst, arith}
+use Rattle.std.proofs.lemmas.List.Elements.{All-pop}
+use Rattle.std.specs.Option.{IfSome}
+use Rattle.ff_engine.specs.Jobs.{IsFresh}
+use Rattle.ff_engine.proofs.starting.break_up.Goals as goal
+
+pub abort-requires : goal.abort-requires
+abort-requires g c =
+    let left = All-pop (λ j. IsFresh g.U.Unit.does j) c.loop-job.jobs.items c.pop.new.self.items c.pop.result c.pop.ensures.items c.loop-job.invariant.fresh in
+    subst (λ r. IfSome r (λ j. IsFresh g.U.Unit.does j)) c.in-Some.is left.1
+
+pub loop-job-preserved : goal.loop-job-preserved
+loop-job-preserved g c = record {
+  fresh = (All-pop (λ j. IsFresh g.U.Unit.does j) c.loop-job.jobs.items c.pop.new.self.items c.pop.result c.pop.ensures.items c.loop-job.invariant.fresh).0;
+  few = omega (arith, c.in-Some.ensures.len, c.loop-job.invariant.few);
+  room = c.pop.ensures.capacity ∙ c.loop-job.invariant.room;
+}

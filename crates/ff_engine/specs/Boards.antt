@@ -1,0 +1,53 @@
+-- The ends of rings, kept by the numbers of their edges.
+use Rattle.std.specs.Prelude.{◌≡◌, ℕ, ◌<◌, List, [], ◌++◌, map, Option, None, Some}
+use Rattle.std.specs.Option.{option_map}
+use Rattle.ff_rec.specs.Lines.{Rec}
+use Rattle.ff_node.specs.Runs.{Message}
+use Rattle.ff_ring.specs.Ends.{got_of, put_of, room_of, read_ring, written_ring}
+use Rattle.ff_ring.specs.Names.{RingName}
+use Rattle.ff_ring.specs.declared.ring_in.RingIn.{RingIn}
+use Rattle.ff_ring.specs.declared.ring_out.RingOut.{RingOut}
+use Rattle.ff_engine.specs.Slots.{EachKept}
+
+-- the two ends of a ring over which nothing went
+pub record IsFreshRing (inn : RingIn Rec) (out : RingOut Rec) : Type 0 where
+  pub pair : read_ring inn ≡ written_ring out
+  pub got : got_of inn ≡ []
+  pub put : put_of out ≡ []
+  pub room : 0 < room_of out
+
+abbrev pub IsFreshPair : Option (RingIn Rec) → Option (RingOut Rec) → Type 0
+IsFreshPair (Some inn) (Some out) = IsFreshRing inn out
+IsFreshPair (Some inn) None = ⊥
+IsFreshPair None out = ⊥
+
+-- nothing went over the rings of these ends
+pub record AreFresh (ins : List (Option (RingIn Rec))) (outs : List (Option (RingOut Rec))) : Type 0 where
+  pub got : EachKept (λ e inn. got_of inn ≡ []) ins
+  pub put : EachKept (λ e out. put_of out ≡ []) outs
+  pub room : EachKept (λ e out. 0 < room_of out) outs
+
+-- the ends are those of the rings of these names, by the numbers of their edges
+pub record AreNamed (name : ℕ → RingName) (ins : List (Option (RingIn Rec))) (outs : List (Option (RingOut Rec))) : Type 0 where
+  pub reads : EachKept (λ e inn. read_ring inn ≡ name e) ins
+  pub writes : EachKept (λ e out. written_ring out ≡ name e) outs
+
+-- what was taken at these ends, and the rings that they read
+abbrev pub gots_on : List (Option (RingIn Rec)) → List (Option (List Message))
+gots_on ins = map (λ inn. option_map (λ i. got_of i) inn) ins
+
+abbrev pub reads_on : List (Option (RingIn Rec)) → List (Option RingName)
+reads_on ins = map (λ inn. option_map (λ i. read_ring i) inn) ins
+
+-- what was put at these, and the rings that they write
+abbrev pub puts_on : List (Option (RingOut Rec)) → List (Option (List Message))
+puts_on outs = map (λ out. option_map (λ o. put_of o) out) outs
+
+abbrev pub writes_on : List (Option (RingOut Rec)) → List (Option RingName)
+writes_on outs = map (λ out. option_map (λ o. written_ring o) out) outs
+
+-- what was got is the first of what was put, where there are ends
+abbrev pub IsFirst : Option (List Message) → Option (List Message) → Type 0
+IsFirst None put = Unit {0}
+IsFirst (Some got) None = ⊥
+IsFirst (Some got) (Some put) = (rest : List Message) × (put ≡ got ++ rest)

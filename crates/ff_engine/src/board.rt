@@ -1,0 +1,70 @@
+// The ends of the rings between threads, kept by the numbers of their edges.
+ghost use Rattle.std.specs.Prelude.{◌≡◌, ◌≤◌, length, All, IfOk, OnOk};
+ghost use Rattle.std.specs.List.{AllZip};
+ghost use Rattle.std.specs.Option.{option_map};
+ghost use Rattle.ff_ring.specs.Ends.{got_of, put_of, read_ring, written_ring};
+ghost use Rattle.ff_engine.specs.Boards.{IsFreshPair, IsFirst, gots_on, puts_on, reads_on, writes_on};
+ghost use Rattle.ff_engine.specs.Slots.{slot};
+
+use crate::bells::Bells;
+use ff_plan::Edge;
+use ff_rec::{NoMemory, Record};
+use ff_ring::{RingIn, RingOut, ring, settle};
+use std::alloc::Global;
+use std::sync::Arc;
+
+/// The reading and the writing end of the ring of each edge, while no job has it. An end that is taken out leaves its
+/// place, so that putting it back takes no memory.
+#[derive(Drop)]
+pub(crate) struct Board {
+    pub(crate) ins: Vec<Option<RingIn<Record>>>,
+    pub(crate) outs: Vec<Option<RingOut<Record>>>,
+}
+
+/// A ring for each of these edges, between the bells of its writer and its reader.
+pub(crate) fn make_rings(alloc: Global, edges: &[Edge], bells: &Bells) -> Result<Board, NoMemory>
+    requires low { All (λ edge. 1 ≤ edge.cap) edges.now }
+    requires high { All (λ edge. edge.cap ≤ 4096) edges.now }
+    ensures fresh { IfOk result (λ board. AllZip IsFreshPair board.ins.items board.outs.items) }
+    ensures count { IfOk result (λ board. length board.ins.items ≡ length edges.now) }
+{
+    let mut ins = Vec::new(alloc);
+    let mut outs = Vec::new(alloc);
+    for edge in edges {
+        let writer = Arc::try_clone(bells.of(edge.writer))?;
+        let reader = Arc::try_clone(bells.of(edge.reader))?;
+        let (out, inn) = ring(alloc, edge.cap as usize, writer, reader)?;
+        ins.push(Some(inn))?;
+        outs.push(Some(out))?;
+    }
+    Ok(Board { ins, outs })
+}
+
+/// Settles all rings, once their threads have ended.
+pub(crate) fn settle_rings(
+    ins: &mut Vec<Option<RingIn<Record>>>,
+    outs: &mut Vec<Option<RingOut<Record>>>,
+)
+    requires { reads_on ins.old.items ≡ writes_on outs.old.items }
+    ensures gots { gots_on ins.new.items ≡ gots_on ins.old.items }
+    ensures puts { puts_on outs.new.items ≡ puts_on outs.old.items }
+    ensures first { AllZip IsFirst (gots_on ins.old.items) (puts_on outs.old.items) }
+{
+    for k in 0..ins.len() {
+        settle_ring(&mut ins[k], &mut outs[k]);
+    }
+}
+
+// Settles a ring, if it is there.
+fn settle_ring(inn: &mut Option<RingIn<Record>>, out: &mut Option<RingOut<Record>>)
+    requires { option_map (λ i. read_ring i) inn.old ≡ option_map (λ o. written_ring o) out.old }
+    ensures reads { option_map (λ i. read_ring i) inn.new ≡ option_map (λ i. read_ring i) inn.old }
+    ensures writes { option_map (λ o. written_ring o) out.new ≡ option_map (λ o. written_ring o) out.old }
+    ensures gots { option_map (λ i. got_of i) inn.new ≡ option_map (λ i. got_of i) inn.old }
+    ensures puts { option_map (λ o. put_of o) out.new ≡ option_map (λ o. put_of o) out.old }
+    ensures first { IsFirst (option_map (λ i. got_of i) inn.old) (option_map (λ o. put_of o) out.old) }
+{
+    if let (Some(inn), Some(out)) = (inn, out) {
+        settle(out, inn);
+    }
+}
