@@ -6,7 +6,7 @@ use Rattle.std.proofs.lemmas.Option.{none-some, same_Some}
 use Rattle.ff_rec.specs.Lines.{Rec}
 use Rattle.ff_rec.specs.Weights.{Same}
 use Rattle.ff_plan.specs.Rows.{Row, range}
-use Rattle.ff_steps.proofs.Chain.{head-same, tail-same, cons≢nil}
+use Rattle.ff_steps.proofs.Heads.{head-same, tail-same, cons≢nil}
 use Rattle.ff_unit.specs.Units.{Doing}
 use Rattle.ff_ring.specs.Ends.{got_of, put_of, room_of, read_ring, written_ring}
 use Rattle.ff_ring.specs.Names.{RingName}

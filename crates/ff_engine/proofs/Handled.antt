@@ -23,7 +23,7 @@ use Rattle.ff_plan.specs.Rows.{Laid, Row}
 use Rattle.ff_plan.proofs.LaidUnits.{length-rows_of}
 use Rattle.ff_plan.proofs.Weighed.{ins-lay, weigh_ins}
 use Rattle.ff_steps.specs.OverEdges.{RanAlong}
-use Rattle.ff_steps.proofs.Chain.{HasEnded}
+use Rattle.ff_steps.proofs.StageEnds.{HasEnded}
 use Rattle.ff_steps.proofs.MessageLists.{closed-front}
 use Rattle.ff_steps.proofs.PlanStages.{AreStages, AreStages-lay, IsStageOf, OnIns, OnIns-lay}
 use Rattle.ff_steps.proofs.StageEnds.{HasPassed, HasPassed-ran}

@@ -8,7 +8,7 @@ use Rattle.ff_rec.specs.Weights.{Same}
 use Rattle.ff_node.specs.Runs.{Message}
 use Rattle.ff_plan.specs.Rows.{Row, range}
 use Rattle.ff_ring.specs.Names.{RingName}
-use Rattle.ff_steps.proofs.Chain.{head-same, tail-same}
+use Rattle.ff_steps.proofs.Heads.{head-same, tail-same}
 use Rattle.ff_engine.specs.Boards.{IsFirst}
 use Rattle.ff_engine.specs.Jobs.{JobState, HasPorts}
 use Rattle.ff_engine.specs.Lines.{HasEnds, HasMoved, IsSettled, IsWired, Linked}

@@ -7,7 +7,7 @@ use Rattle.std.proofs.lemmas.Option.{none-some}
 use Rattle.std.specs.List.{All, AllZip}
 use Rattle.std.specs.Option.{option_map}
 use Rattle.ff_rec.specs.Weights.{weigh}
-use Rattle.ff_steps.proofs.Chain.{head-same, tail-same, cons≢nil}
+use Rattle.ff_steps.proofs.Heads.{head-same, tail-same, cons≢nil}
 use Rattle.ff_engine.specs.Slots.{slot, taken_out, emptied, Holds, placed, placed_all, EachKept}
 
 -- how often a number stands in a list

@@ -16,9 +16,6 @@ pub mod MessageLists
 pub mod FeederRuns
 pub mod DrainerRuns
 pub mod Heads
-pub mod Chain
-pub mod ChainRejects
-pub mod ChainTook
 pub mod UnitsOpened
 pub mod PlanStages
 pub mod StageEnds

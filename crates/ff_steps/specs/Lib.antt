@@ -1,5 +1,4 @@
 pub mod Wiring
-pub mod Chains
 pub mod Links
 pub mod Parties
 pub mod Core

@@ -20,7 +20,7 @@ const REJECTS: &[u8] = b"bad\nworse\n";
 enum Form {
     // A unit for each.
     Flat,
-    // The same, with pipes in a pipe.
+    // Pipes in a pipe.
     Nested,
     // The first one alone, and the others as one unit.
     Paired,
