@@ -21,12 +21,12 @@ use Rattle.ff_plan.specs.Laying.{units_of}
 use Rattle.ff_plan.specs.Plans.{rows_of}
 use Rattle.ff_plan.specs.Rows.{Laid, Row}
 use Rattle.ff_plan.proofs.LaidUnits.{length-rows_of}
-use Rattle.ff_plan.proofs.Weighed.{ins-lay, weigh_ins}
+use Rattle.ff_plan.proofs.WeighedIns.{ins-lay}
+use Rattle.ff_plan.proofs.WeighedRows.{weigh_ins}
 use Rattle.ff_steps.specs.OverEdges.{RanAlong}
-use Rattle.ff_steps.proofs.StageEnds.{HasEnded}
 use Rattle.ff_steps.proofs.MessageLists.{closed-front}
 use Rattle.ff_steps.proofs.PlanStages.{AreStages, AreStages-lay, IsStageOf, OnIns, OnIns-lay}
-use Rattle.ff_steps.proofs.StageEnds.{HasPassed, HasPassed-ran}
+use Rattle.ff_steps.proofs.StageEnds.{HasEnded, HasPassed, HasPassed-ran}
 use Rattle.ff_unit.specs.StageUnit.{stage_does}
 use Rattle.ff_unit.specs.Units.{Ran}
 use Rattle.ff_engine.specs.Jobs.{JobState, handled}

@@ -27,10 +27,10 @@ use Rattle.ff_plan.specs.Plans.{rows_of}
 use Rattle.ff_spawn.specs.Counts.{RoseBy}
 use Rattle.ff_spawn.specs.CountLaws.{RoseBy-worked_after}
 use Rattle.ff_steps.proofs.Heads.{head-same, tail-same, cons≢nil}
-use Rattle.ff_steps.proofs.StageEnds.{HasEnded}
 use Rattle.ff_steps.proofs.MessageLists.{closed-front, items-closed, carried-append}
 use Rattle.ff_steps.proofs.OverBegins.{BeginsAnswer-over}
 use Rattle.ff_steps.proofs.OverWhole.{HasAnswered-over}
+use Rattle.ff_steps.proofs.StageEnds.{HasEnded}
 use Rattle.ff_steps.specs.OverEdges.{HasAnswered, RanAlong, RanOver}
 use Rattle.ff_steps.specs.Units.{opened_units}
 use Rattle.ff_stream.specs.Endings.{Begun, IsBeginning, IsReported}

@@ -12,7 +12,8 @@ use Rattle.ff_plan.specs.Laying.{units_of}
 use Rattle.ff_plan.specs.Plans.{rows_of}
 use Rattle.ff_plan.specs.Rows.{Row, Laid, range}
 use Rattle.ff_plan.proofs.Ranges.{range-cut}
-use Rattle.ff_plan.proofs.Weighed.{ins-lay, outs-lay}
+use Rattle.ff_plan.proofs.WeighedIns.{ins-lay}
+use Rattle.ff_plan.proofs.WeighedOuts.{outs-lay}
 use Rattle.ff_engine.specs.Lines.{IsWired}
 use Rattle.ff_engine.proofs.SlotLaws.{is, times, is-same, is-other, All-below}
 
