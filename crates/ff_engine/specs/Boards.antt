@@ -3,7 +3,8 @@ use Rattle.std.specs.Prelude.{◌≡◌, ℕ, ◌<◌, List, [], ◌++◌, map, 
 use Rattle.std.specs.Option.{option_map}
 use Rattle.ff_rec.specs.Lines.{Rec}
 use Rattle.ff_node.specs.Runs.{Message}
-use Rattle.ff_ring.specs.Ends.{got_of, put_of, room_of, read_ring, written_ring}
+use Rattle.ff_plan.specs.declared.layout.Edge.{Edge}
+use Rattle.ff_ring.specs.Ends.{got_of, put_of, room_of, read_ring, written_ring, IsMade}
 use Rattle.ff_ring.specs.Names.{RingName}
 use Rattle.ff_ring.specs.declared.ring_in.RingIn.{RingIn}
 use Rattle.ff_ring.specs.declared.ring_out.RingOut.{RingOut}
@@ -20,6 +21,11 @@ abbrev pub IsFreshPair : Option (RingIn Rec) → Option (RingOut Rec) → Type 0
 IsFreshPair (Some inn) (Some out) = IsFreshRing inn out
 IsFreshPair (Some inn) None = ⊥
 IsFreshPair None out = ⊥
+
+-- an edge's ring is as long as the edge
+abbrev pub IsRingOf : Edge → Option (RingOut Rec) → Type 0
+IsRingOf edge None = ⊥
+IsRingOf edge (Some out) = IsMade edge.cap out
 
 -- nothing went over the rings of these ends
 pub record AreFresh (ins : List (Option (RingIn Rec))) (outs : List (Option (RingOut Rec))) : Type 0 where

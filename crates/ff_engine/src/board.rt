@@ -3,7 +3,7 @@ ghost use Rattle.std.specs.Prelude.{◌≡◌, ◌≤◌, length, All, IfOk, OnO
 ghost use Rattle.std.specs.List.{AllZip};
 ghost use Rattle.std.specs.Option.{option_map};
 ghost use Rattle.ff_ring.specs.Ends.{got_of, put_of, read_ring, written_ring};
-ghost use Rattle.ff_engine.specs.Boards.{IsFreshPair, IsFirst, gots_on, puts_on, reads_on, writes_on};
+ghost use Rattle.ff_engine.specs.Boards.{IsFreshPair, IsRingOf, IsFirst, gots_on, puts_on, reads_on, writes_on};
 ghost use Rattle.ff_engine.specs.Slots.{slot};
 
 use crate::bells::Bells;
@@ -27,6 +27,7 @@ pub(crate) fn make_rings(alloc: Global, edges: &[Edge], bells: &Bells) -> Result
     requires high { All (λ edge. edge.cap ≤ 4096) edges.now }
     ensures fresh { IfOk result (λ board. AllZip IsFreshPair board.ins.items board.outs.items) }
     ensures count { IfOk result (λ board. length board.ins.items ≡ length edges.now) }
+    ensures caps { IfOk result (λ board. AllZip IsRingOf edges.now board.outs.items) }
 {
     let mut ins = Vec::new(alloc);
     let mut outs = Vec::new(alloc);

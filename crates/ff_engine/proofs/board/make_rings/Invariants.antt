@@ -1,6 +1,6 @@
-use Rattle.std.proofs.Common.{◌≡◌, length}
+use Rattle.std.proofs.Common.{◌≡◌, length, take}
 use Rattle.std.specs.List.{AllZip}
-use Rattle.ff_engine.specs.Boards.{IsFreshPair}
+use Rattle.ff_engine.specs.Boards.{IsFreshPair, IsRingOf}
 use Rattle.ff_engine.proofs.board.make_rings.Given as goal
 
 -- the rings so far
@@ -8,4 +8,5 @@ abbrev pub invariant-loop-edge : goal.invariant-loop-edge
 invariant-loop-edge l = record {
   fresh : AllZip IsFreshPair l.ins.items l.outs.items;
   count : length l.ins.items ≡ l.edge-index;
+  caps : AllZip IsRingOf (take l.edge-index l.edges) l.outs.items;
 }
