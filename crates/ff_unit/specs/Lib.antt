@@ -4,6 +4,9 @@ pub mod StageSteps
 pub mod StagePorts
 pub mod StageParts
 pub mod StageUnit
+pub mod Closing
+pub mod Deals
+pub mod Merges
 -- lemmas: nothing to trust
 pub mod MessageLaws
 pub mod AnswerLaws

@@ -3,10 +3,12 @@
 #![tactic(auto)]
 
 mod aborts;
+mod dealing;
 mod mode;
 mod stage;
 mod unit;
 
+pub use dealing::Dealing;
 pub use mode::Mode;
 pub use stage::Stage;
 pub use unit::Unit;

@@ -1,0 +1,6 @@
+//! The units of an ordered farm: what deals records out in groups, and what brings the groups back into the order of the records.
+#![tactic(auto)]
+
+mod order;
+
+pub use order::Order;
