@@ -1,1 +1,2 @@
+pub mod Fickle
 pub mod Silent
