@@ -29,3 +29,4 @@ pub mod StageAbortLaws
 pub mod StageLaws
 pub mod MergeTiedLaws
 pub mod MergeInsLaws
+pub mod MergeKeptLaws
