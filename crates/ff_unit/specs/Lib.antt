@@ -30,3 +30,5 @@ pub mod StageLaws
 pub mod MergeTiedLaws
 pub mod MergeInsLaws
 pub mod MergeKeptLaws
+pub mod MergeFitsLaws
+pub mod MergeLaws
