@@ -1,7 +1,6 @@
 -- Laws of what lists of messages carry, and of the beginnings of such lists.
-use Rattle.std.specs.Prelude.{◌⊎◌}
-use Rattle.std.proofs.Common.{◌≡◌, ◌+◌, List, [], ◌∷◌, ◌++◌, length, drop, get_or, refl, sym, ap, ap₂, ◌∙◌, subst, arith, length-append, append-nil, append_assoc, inl, inr}
-use Rattle.std.proofs.lemmas.List.{nil_from_length, map-append}
+use Rattle.std.proofs.Common.{◌≡◌, List, [], ◌∷◌, ◌++◌, length, drop, get_or, refl, sym, ap, ap₂, ◌∙◌, subst, arith, length-append, append-nil, append_assoc}
+use Rattle.std.proofs.lemmas.List.{nil_from_length}
 use Rattle.ff_rec.specs.Lines.{Rec}
 use Rattle.ff_rec.specs.Streams.{IsOpen, IsOpenMsg, items, carried, unaborted, closed}
 use Rattle.ff_rec.specs.declared.msg.Msg.{Msg}

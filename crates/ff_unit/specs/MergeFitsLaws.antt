@@ -1,19 +1,18 @@
 -- What a merge put begins what it puts for all of its ins, and once it has ended by Eos is all of that.
-use Rattle.std.specs.Prelude.{◌⊎◌}
-use Rattle.std.proofs.Common.{◌≡◌, ℕ, zero, suc, ◌+◌, ◌<◌, ◌≤◌, Bool, true, false, List, [], ◌∷◌, ◌++◌, length, map, get_or, slice_index_or, Option, None, Some, refl, sym, ap, ◌∙◌, subst, append_assoc, append-nil, arith, inl, inr}
+use Rattle.std.proofs.Common.{◌≡◌, ℕ, zero, suc, ◌+◌, ◌<◌, ◌≤◌, Bool, true, false, List, [], ◌∷◌, ◌++◌, length, map, get_or, slice_index_or, Some, refl, sym, ap, ◌∙◌, subst, append_assoc, append-nil, arith}
 use Rattle.std.proofs.lemmas.Option.{none-some}
 use Rattle.std.proofs.lemmas.List.{map-append, get_or-map, length-map}
 use Rattle.ff_rec.specs.Lines.{Rec}
-use Rattle.ff_rec.specs.Streams.{IsOpen, at, items, carried, closed, unaborted, GoesOn}
+use Rattle.ff_rec.specs.Streams.{at, items, carried, closed, unaborted, GoesOn}
 use Rattle.ff_rec.specs.declared.msg.Msg.TheVariants.{Eos as EosMsg, Abort as AbortMsg}
-use Rattle.ff_node.specs.Fits.{FitsMerge, IsGathered}
+use Rattle.ff_node.specs.Fits.{FitsMerge}
 use Rattle.ff_node.specs.Picks.{ArePicks, share}
-use Rattle.ff_node.specs.Runs.{Message, AllGoOn, HasOuts, BeginsToFit, FitsWhole}
+use Rattle.ff_node.specs.Runs.{Message, AllGoOn, BeginsToFit, FitsWhole}
 use Rattle.ff_port.specs.declared.answers.End.{End}
 use Rattle.ff_port.specs.declared.answers.End.TheVariants.{Eos, Abort, Memory}
 use Rattle.ff_unit.specs.Closing.{any_live, decided}
 use Rattle.ff_unit.specs.Merges.{MergeState}
-use Rattle.ff_unit.specs.CarriedLaws.{BeginsCarried, items-carried, items-unaborted, items-closed, closed-behind}
+use Rattle.ff_unit.specs.CarriedLaws.{items-carried, items-unaborted, items-closed, closed-behind}
 use Rattle.ff_unit.specs.FlagLaws.{live-none}
 use Rattle.ff_unit.specs.MergeTiedLaws.{InTied, OutTied, IsCutOff, MergeTied}
 use Rattle.ff_unit.specs.MessageLaws.{IsOpen-carried, items-append, unaborted-append, unaborted-open, unaborted-closed, unaborted-cut}
@@ -176,7 +175,7 @@ module _ (n : ℕ) (u : MergeState) (gots puts : List (List Message)) (t : Merge
       let c = AreClosed-each gots (λ j below. closed_ins n u gots puts t well.1 well.0 j (omega (arith, below, t.ins.ins))) in
       let number : length c.inner ≡ n = sym (length-map c.inner (closed {T = Rec})) ∙ sym (ap length c.are) ∙ t.ins.ins in
       let out : OutTied Eos false (t.put ++ []) t.ys = subst (λ h. OutTied Eos false (t.put ++ h) t.ys) (t.ended done).0
-          (subst (λ any. OutTied Eos any (t.put ++ u.held) t.ys) well.0 (subst (λ end. OutTied end (any_live u.live) (t.put ++ u.held) t.ys) well.1 t.out)) in
+      (subst (λ any. OutTied Eos any (t.put ++ u.held) t.ys) well.0 (subst (λ end. OutTied end (any_live u.live) (t.put ++ u.held) t.ys) well.1 t.out)) in
       record {
         ins = c.inner;
         outs = carried t.ys ∷ [];

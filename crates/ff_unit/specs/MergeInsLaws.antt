@@ -5,11 +5,11 @@ use Rattle.std.proofs.lemmas.Bool.{cases_eq}
 use Rattle.ff_rec.specs.Lines.{Rec}
 use Rattle.ff_rec.specs.Streams.{IsOpen, IsOpenMsg, at, added, items}
 use Rattle.ff_rec.specs.declared.msg.Msg.TheVariants.{Item, Eos as EosMsg, Abort as AbortMsg}
-use Rattle.ff_node.specs.Picks.{ArePicks, share}
+use Rattle.ff_node.specs.Picks.{share}
 use Rattle.ff_node.specs.Runs.{Message}
 use Rattle.ff_port.specs.declared.answers.End.{End}
 use Rattle.ff_port.specs.declared.answers.End.TheVariants.{Eos, Abort, Memory}
-use Rattle.ff_unit.specs.Closing.{IsLive, any_live, none_live, spoiled}
+use Rattle.ff_unit.specs.Closing.{IsLive, none_live, spoiled}
 use Rattle.ff_unit.specs.Units.{TookAbort}
 use Rattle.ff_unit.specs.FlagLaws.{IsLive-within, live-none, any_live-none, length-none_live}
 use Rattle.ff_unit.specs.MergeTiedLaws.{InTied, InsTied}

@@ -1,19 +1,18 @@
 -- Every run of a merge keeps it tied to its ports.
-use Rattle.std.specs.Prelude.{◌⊎◌, ◌≤◌}
-use Rattle.std.proofs.Common.{◌≡◌, ℕ, ◌<◌, Bool, true, false, if◌then◌else◌, List, [], ◌∷◌, ◌++◌, length, replicate, slice_index_or, slice_set, refl, sym, ap, ◌∙◌, subst, append_assoc, arith, inl, inr}
+use Rattle.std.specs.Prelude.{◌≤◌}
+use Rattle.std.proofs.Common.{◌≡◌, ℕ, Bool, true, false, if◌then◌else◌, List, [], ◌∷◌, ◌++◌, length, replicate, slice_set, refl, sym, ap, ◌∙◌, subst, append_assoc, arith, inl, inr}
 use Rattle.std.proofs.lemmas.Bool.{false≢true}
 use Rattle.std.proofs.lemmas.List.{length-replicate, get_or-replicate}
 use Rattle.ff_rec.specs.Streams.{IsOpen, at, added, items}
 use Rattle.ff_rec.specs.declared.msg.Msg.TheVariants.{Item, Mark, Pick, Eos as EosMsg, Abort as AbortMsg}
 use Rattle.ff_node.specs.Runs.{Message, Act, Took, Gave, Refused, Idle, Told, Handed, took, gave, HasRun}
-use Rattle.ff_port.specs.declared.answers.End.{End}
 use Rattle.ff_port.specs.declared.answers.End.TheVariants.{Eos, Abort, Memory}
 use Rattle.ff_unit.specs.Closing.{IsLive, any_live, all_live, none_live, spoiled, told_last}
 use Rattle.ff_unit.specs.Merges.{MergeState, MergeStep, merge_takes, merge_closes, forwarded, opened_merge, opening_merge}
 use Rattle.ff_unit.specs.StageSteps.{IsOpenFront}
 use Rattle.ff_unit.specs.FlagLaws.{any_live-at, any_live-all, any_live-none, length-all_live}
 use Rattle.ff_unit.specs.MergeInsLaws.{InsTied-memory, InsTied-told, InsTied-dropped, InsTied-item, InsTied-eos, InsTied-abort}
-use Rattle.ff_unit.specs.MergeTiedLaws.{InTied, OutTied, InsTied, MergeTied, IsCutOff, OutTied-begun, IsCutOff-begun, OutTied-item, OutTied-closes, OutTied-spoiled, IsCutOff-told}
+use Rattle.ff_unit.specs.MergeTiedLaws.{InTied, OutTied, InsTied, MergeTied, OutTied-begun, IsCutOff-begun, OutTied-item, OutTied-closes, OutTied-spoiled, IsCutOff-told}
 use Rattle.ff_unit.specs.RunLaws.{HasRun-keeps}
 use Rattle.ff_unit.specs.TakenLaws.{at-none}
 

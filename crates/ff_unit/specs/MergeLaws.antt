@@ -1,16 +1,15 @@
 -- A merge keeps the laws of a unit.
 use Rattle.std.specs.Prelude.{◌⊎◌, IsSome}
-use Rattle.std.proofs.Common.{◌≡◌, ◌≤◌, Bool, true, false, if◌then◌else◌, List, [], ◌∷◌, ◌++◌, length, Option, None, Some, refl, sym, ap, ◌∙◌, subst, slice_set, length-set, arith, inl, inr}
+use Rattle.std.proofs.Common.{◌≡◌, ◌≤◌, Bool, true, false, if◌then◌else◌, List, [], ◌∷◌, ◌++◌, length, Some, refl, sym, ap, ◌∙◌, subst, slice_set, length-set, arith, inl, inr}
 use Rattle.std.proofs.lemmas.Option.{none-some}
-use Rattle.ff_rec.specs.Lines.{Rec}
 use Rattle.ff_rec.specs.Streams.{IsOpen, at}
 use Rattle.ff_rec.specs.declared.msg.Msg.TheVariants.{Item, Mark, Pick, Eos as EosMsg, Abort as AbortMsg}
 use Rattle.ff_node.specs.Runs.{Message, Act, Took, Gave, Refused, Idle, Told, Handed, Leads}
 use Rattle.ff_port.specs.declared.answers.End.{End}
 use Rattle.ff_port.specs.declared.answers.End.TheVariants.{Eos, Abort, Memory}
-use Rattle.ff_unit.specs.Closing.{any_live, all_live, none_live, spoiled, told_last, decided}
-use Rattle.ff_unit.specs.Merges.{MergeState, MergeStep, MergeReady, merge_takes, merge_closes, opened_merge, opening_merge, aborted_merge, merge_does}
-use Rattle.ff_unit.specs.Units.{Doing, IsUnit, Ran, TookAbort, taken_by, told_by, told_acts}
+use Rattle.ff_unit.specs.Closing.{any_live, none_live, spoiled, told_last, decided}
+use Rattle.ff_unit.specs.Merges.{MergeState, MergeStep, MergeReady, merge_takes, opened_merge, opening_merge, aborted_merge, merge_does}
+use Rattle.ff_unit.specs.Units.{IsUnit, Ran, taken_by, told_by, told_acts}
 use Rattle.ff_unit.specs.CarriedLaws.{BeginsCarried-open}
 use Rattle.ff_unit.specs.FlagLaws.{any_live-none, length-all_live, length-none_live}
 use Rattle.ff_unit.specs.MergeFitsLaws.{BeginsToFit-tied, FitsWhole-tied}

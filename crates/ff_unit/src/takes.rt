@@ -1,5 +1,5 @@
 // Taking from any in that still gives.
-ghost use Rattle.std.specs.Prelude.{◌≡◌, ◌≤◌, length};
+ghost use Rattle.std.specs.Prelude.{◌≡◌, ◌<◌, ◌≤◌, length, IfSome};
 ghost use Rattle.ff_unit.specs.Takes.{TakesAny, TakesBetween};
 ghost use Rattle.ff_unit.specs.Units.{known};
 
@@ -18,6 +18,7 @@ pub fn take_any<P: Ports<Record>>(
         (known (P.knowns ports.old) (P.rooms ports.old) (P.waiting ports.old)) result
         (P.gots ports.new)
         (known (P.knowns ports.new) (P.rooms ports.new) (P.waiting ports.new)) }
+    ensures within { IfSome result (λ taken. taken.0 < 65) }
     ensures puts { P.puts ports.new ≡ P.puts ports.old }
     ensures rooms { P.rooms ports.new ≡ P.rooms ports.old }
     ensures waiting { P.waiting ports.new ≡ P.waiting ports.old }
@@ -42,6 +43,7 @@ fn take_between<P: Ports<Record>>(
     requires within { high ≤ length (P.gots ports.old) }
     ensures takes { TakesBetween low high live.now (P.gots ports.old) (P.knowns ports.old)
         result (P.gots ports.new) (P.knowns ports.new) }
+    ensures within { IfSome result (λ taken. taken.0 < high) }
     ensures puts { P.puts ports.new ≡ P.puts ports.old }
     ensures rooms { P.rooms ports.new ≡ P.rooms ports.old }
     ensures waiting { P.waiting ports.new ≡ P.waiting ports.old }
