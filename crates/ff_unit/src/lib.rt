@@ -20,3 +20,6 @@ pub use mode::Mode;
 pub use stage::Stage;
 pub use takes::take_any;
 pub use unit::Unit;
+
+#[cfg(test)]
+mod tests;
