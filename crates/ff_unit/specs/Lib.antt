@@ -9,6 +9,9 @@ pub mod Deals
 pub mod Merges
 -- lemmas: nothing to trust
 pub mod MessageLaws
+pub mod RunLaws
+pub mod DealPairLaws
+pub mod DealPickLaws
 pub mod AnswerLaws
 pub mod RefusalLaws
 pub mod StageKindLaws
