@@ -12,6 +12,8 @@ pub mod MessageLaws
 pub mod RunLaws
 pub mod DealPairLaws
 pub mod DealPickLaws
+pub mod DealFitsLaws
+pub mod DealTiedLaws
 pub mod AnswerLaws
 pub mod RefusalLaws
 pub mod StageKindLaws
