@@ -14,6 +14,9 @@ pub mod DealPairLaws
 pub mod DealPickLaws
 pub mod DealFitsLaws
 pub mod DealTiedLaws
+pub mod DealKindLaws
+pub mod DealTellingLaws
+pub mod DealGivesLaws
 pub mod AnswerLaws
 pub mod RefusalLaws
 pub mod StageKindLaws
