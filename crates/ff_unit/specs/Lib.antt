@@ -17,6 +17,8 @@ pub mod DealTiedLaws
 pub mod DealKindLaws
 pub mod DealTellingLaws
 pub mod DealGivesLaws
+pub mod DealTakesLaws
+pub mod DealKeptLaws
 pub mod AnswerLaws
 pub mod RefusalLaws
 pub mod StageKindLaws
