@@ -19,6 +19,10 @@ pub mod DealTellingLaws
 pub mod DealGivesLaws
 pub mod DealTakesLaws
 pub mod DealKeptLaws
+pub mod DealReadyLaws
+pub mod DealBeginsLaws
+pub mod DealAbortLaws
+pub mod DealLaws
 pub mod AnswerLaws
 pub mod RefusalLaws
 pub mod StageKindLaws
