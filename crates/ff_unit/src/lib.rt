@@ -4,11 +4,13 @@
 
 mod aborts;
 mod dealing;
+mod keys;
 mod mode;
 mod stage;
 mod unit;
 
 pub use dealing::Dealing;
+pub use keys::key_place;
 pub use mode::Mode;
 pub use stage::Stage;
 pub use unit::Unit;
