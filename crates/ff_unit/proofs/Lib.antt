@@ -1,3 +1,4 @@
 pub mod StageFields
+pub mod DealOuts
 pub mod UnitRuns
 pub mod UnitAborts

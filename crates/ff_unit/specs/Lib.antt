@@ -6,6 +6,7 @@ pub mod StageParts
 pub mod StageUnit
 pub mod Closing
 pub mod Deals
+pub mod DealParts
 pub mod Merges
 -- lemmas: nothing to trust
 pub mod MessageLaws

@@ -3,12 +3,14 @@
 #![tactic(auto)]
 
 mod aborts;
+mod deal;
 mod dealing;
 mod keys;
 mod mode;
 mod stage;
 mod unit;
 
+pub use deal::Deal;
 pub use dealing::Dealing;
 pub use keys::key_place;
 pub use mode::Mode;
