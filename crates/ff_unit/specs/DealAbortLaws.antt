@@ -1,11 +1,10 @@
 -- Why a deal ends by Abort, and how one ends that is told to abort before its first step.
 use Rattle.std.specs.Prelude.{◌≡◌, ◌⊎◌, ◌+◌, ℕ, zero, suc, Bool, true, false, List, [], ◌∷◌, ◌++◌, None, Some}
-use Rattle.std.proofs.Common.{refl, sym, ap, ◌∙◌, subst, inl, inr, arith}
+use Rattle.std.proofs.Common.{refl, sym, ap, subst, inl, inr, arith}
 use Rattle.std.proofs.lemmas.Option.{none-some}
 use Rattle.ff_rec.specs.declared.msg.Msg.TheVariants.{Abort as AbortMsg}
 use Rattle.ff_node.specs.Runs.{Message, Told, Leads}
-use Rattle.ff_port.specs.declared.answers.End.{End}
-use Rattle.ff_port.specs.declared.answers.End.TheVariants.{Eos, Abort, Memory}
+use Rattle.ff_port.specs.declared.answers.End.TheVariants.{Abort}
 use Rattle.ff_unit.specs.Closing.{decided}
 use Rattle.ff_unit.specs.DealPairLaws.{Pair}
 use Rattle.ff_unit.specs.DealTiedLaws.{TiedAt, IsTied}

@@ -1,8 +1,7 @@
 -- What a run of a deal has put begins what it sends for all of the in, and is all of it where the deal ended by Eos.
-use Rattle.std.specs.Prelude.{◌≡◌, ◌⊎◌, ◌+◌, ◌<◌, ◌≤◌, ℕ, suc, Bool, true, false, List, [], ◌∷◌, ◌++◌, length, map, Option, None, Some, IsSome}
+use Rattle.std.specs.Prelude.{◌≡◌, ◌+◌, ◌<◌, ◌≤◌, ℕ, Bool, true, false, List, [], ◌∷◌, ◌++◌, length, Some}
 use Rattle.std.specs.Option.{option_to_list}
 use Rattle.std.proofs.Common.{refl, sym, ap, ◌∙◌, subst, arith, append-nil, append_assoc, length-append}
-use Rattle.std.proofs.lemmas.Option.{none-some}
 use Rattle.ff_rec.specs.Lines.{Rec}
 use Rattle.ff_rec.specs.Streams.{IsOpen, IsOpenMsg, at, items, unaborted, closed, GoesOn}
 use Rattle.ff_rec.specs.declared.msg.Msg.TheVariants.{Item, Mark, Pick, Eos as EosMsg, Abort as AbortMsg}
@@ -110,7 +109,7 @@ module _ (u : DealState) (g : List Message) (ps : List Pair) (some : 1 ≤ u.pla
   begins-shut : TiedShut u g ps → GoesOnBy u ps ms
   begins-shut t =
       let whole : ms ≡ t.ms = closed-front ms t.ms goes.more goes.inner
-          (goes.is ∙ ap (λ l. l ++ goes.more) (ap unaborted t.is ∙ unaborted-closed t.ms t.inner)) in
+      (goes.is ∙ ap (λ l. l ++ goes.more) (ap unaborted t.is ∙ unaborted-closed t.ms t.inner)) in
       let outs = deal_outs u.way u.places in
       record {
         picks = t.picks;

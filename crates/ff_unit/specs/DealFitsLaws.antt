@@ -1,15 +1,14 @@
 -- A deal fits any in with what it sends for its records.
-use Rattle.std.specs.Prelude.{◌≡◌, ◌≢◌, ◌<◌, ◌≤◌, ◌==◌, if◌then◌else◌, ℕ, suc, Bool, true, false, List, [], ◌∷◌, ◌++◌, length, map}
+use Rattle.std.specs.Prelude.{◌≡◌, ◌≢◌, ◌<◌, ◌==◌, ℕ, suc, Bool, true, false, List, [], ◌∷◌, ◌++◌, length, map}
 use Rattle.std.specs.List.{AllByRecursion}
-use Rattle.std.proofs.Common.{refl, sym, ap, ◌∙◌, subst, arith, cond}
-use Rattle.std.proofs.lemmas.Bool.{eq-eqb}
+use Rattle.std.proofs.Common.{refl, ap, ◌∙◌, subst, arith, cond}
 use Rattle.ff_rec.specs.Lines.{Rec}
-use Rattle.ff_rec.specs.Streams.{at, items, carried}
+use Rattle.ff_rec.specs.Streams.{items, carried}
 use Rattle.ff_rec.specs.declared.msg.Msg.TheVariants.{Item, Mark, Pick}
 use Rattle.ff_node.specs.Fits.{IsDealt, IsMarkedDeal, marked}
-use Rattle.ff_node.specs.Picks.{ArePicks, share, turns, by_key}
+use Rattle.ff_node.specs.Picks.{share, turns, by_key}
 use Rattle.ff_node.specs.Runs.{Message}
-use Rattle.ff_unit.specs.DealPairLaws.{Pair, on, on-own, on-other, rows, length-rows, at-rows_all}
+use Rattle.ff_unit.specs.DealPairLaws.{on, on-own, on-other, rows, length-rows, at-rows_all}
 use Rattle.ff_unit.specs.DealPickLaws.{IsPicked, sent}
 use Rattle.ff_unit.specs.Deals.{behind, deal_outs, FitsDeal}
 use Rattle.ff_unit.specs.declared.dealing.Dealing.{Dealing}
@@ -83,31 +82,47 @@ IsDealt-sent way n p xs none number are = record {
 
 -- a deal fits what it sends for all records of its in
 pub FitsDeal-sent : (way : Dealing) (n : ℕ) (p : List ℕ) (ms : List Message) → IsPicked way n 0 p (items ms) → FitsDeal way n (ms ∷ []) (outs_of way n p (items ms))
-FitsDeal-sent InTurn n p ms are = (refl, λ xs e.
-    let outs = outs_of InTurn n p (items ms) in
-    subst (λ ys. IsDealt n (turns n (length ys)) ys outs) (ap items e ∙ items-carried xs)
-    (subst (λ q. IsDealt n q (items ms) outs) are.by_way (IsDealt-sent InTurn n p (items ms) (λ w. refl) refl are)))
-FitsDeal-sent OnDemand n p ms are = (refl, λ xs e.
-    let outs = outs_of OnDemand n p (items ms) in
-    (p, subst (λ ys. IsDealt n p ys outs) (ap items e ∙ items-carried xs) (IsDealt-sent OnDemand n p (items ms) (λ w. refl) refl are)))
-FitsDeal-sent (ByKey f) n p ms are = (refl, λ xs e.
-    let outs = outs_of (ByKey f) n p (items ms) in
-    subst (λ ys. IsDealt n (by_key f n ys) ys outs) (ap items e ∙ items-carried xs)
-    (subst (λ q. IsDealt n q (items ms) outs) are.by_way (IsDealt-sent (ByKey f) n p (items ms) (λ w. refl) refl are)))
-FitsDeal-sent GroupsInTurn n p ms are = (refl, length-rows (λ j. on j (sent GroupsInTurn n p (items ms))) 0 n, λ xs e.
-    let outs = outs_of GroupsInTurn n p (items ms) in
-    subst (λ ys. IsMarkedDeal n (turns n (length ys)) ys outs) (ap items e ∙ items-carried xs)
-    (subst (λ q. IsMarkedDeal n q (items ms) outs) are.by_way (record {
-      picks_are = record { each = are.each; within = are.within };
-      shares = λ j below. at-rows_all (λ j. on j (sent GroupsInTurn n p (items ms))) n j below ∙ on-sent_groups n j p (items ms);
-    })))
-FitsDeal-sent GroupsOnDemand n p ms are = (refl, length-rows (λ j. on j (sent GroupsOnDemand n p (items ms))) 0 (suc n), λ xs e.
-    let outs = outs_of GroupsOnDemand n p (items ms) in
-    (
-      p,
-      subst (λ ys. IsMarkedDeal n p ys outs) (ap items e ∙ items-carried xs) (record {
+FitsDeal-sent InTurn n p ms are = (
+  refl,
+  λ xs e.
+      let outs = outs_of InTurn n p (items ms) in
+      subst (λ ys. IsDealt n (turns n (length ys)) ys outs) (ap items e ∙ items-carried xs)
+      (subst (λ q. IsDealt n q (items ms) outs) are.by_way (IsDealt-sent InTurn n p (items ms) (λ w. refl) refl are)),
+)
+FitsDeal-sent OnDemand n p ms are = (
+  refl,
+  λ xs e.
+      let outs = outs_of OnDemand n p (items ms) in
+      (p, subst (λ ys. IsDealt n p ys outs) (ap items e ∙ items-carried xs) (IsDealt-sent OnDemand n p (items ms) (λ w. refl) refl are)),
+)
+FitsDeal-sent (ByKey f) n p ms are = (
+  refl,
+  λ xs e.
+      let outs = outs_of (ByKey f) n p (items ms) in
+      subst (λ ys. IsDealt n (by_key f n ys) ys outs) (ap items e ∙ items-carried xs)
+      (subst (λ q. IsDealt n q (items ms) outs) are.by_way (IsDealt-sent (ByKey f) n p (items ms) (λ w. refl) refl are)),
+)
+FitsDeal-sent GroupsInTurn n p ms are = (
+  refl,
+  length-rows (λ j. on j (sent GroupsInTurn n p (items ms))) 0 n,
+  λ xs e.
+      let outs = outs_of GroupsInTurn n p (items ms) in
+      subst (λ ys. IsMarkedDeal n (turns n (length ys)) ys outs) (ap items e ∙ items-carried xs)
+      (subst (λ q. IsMarkedDeal n q (items ms) outs) are.by_way (record {
         picks_are = record { each = are.each; within = are.within };
-        shares = λ j below. at-rows_all (λ j. on j (sent GroupsOnDemand n p (items ms))) (suc n) j (omega (arith, below)) ∙ on-sent_demand n j p (items ms) below;
-      }),
-      at-rows_all (λ j. on j (sent GroupsOnDemand n p (items ms))) (suc n) n (omega arith) ∙ on-sent_last n p (items ms) are.each are.within,
-    ))
+        shares = λ j below. at-rows_all (λ j. on j (sent GroupsInTurn n p (items ms))) n j below ∙ on-sent_groups n j p (items ms);
+      })),
+)
+FitsDeal-sent GroupsOnDemand n p ms are = (
+  refl,
+  length-rows (λ j. on j (sent GroupsOnDemand n p (items ms))) 0 (suc n),
+  λ xs e.
+      let outs = outs_of GroupsOnDemand n p (items ms) in (
+        p,
+        subst (λ ys. IsMarkedDeal n p ys outs) (ap items e ∙ items-carried xs) (record {
+          picks_are = record { each = are.each; within = are.within };
+          shares = λ j below. at-rows_all (λ j. on j (sent GroupsOnDemand n p (items ms))) (suc n) j (omega (arith, below)) ∙ on-sent_demand n j p (items ms) below;
+        }),
+        at-rows_all (λ j. on j (sent GroupsOnDemand n p (items ms))) (suc n) n (omega arith) ∙ on-sent_last n p (items ms) are.each are.within,
+      ),
+)

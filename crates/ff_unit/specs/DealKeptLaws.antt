@@ -1,5 +1,5 @@
 -- Every run of a deal keeps it tied to its ports.
-use Rattle.std.specs.Prelude.{◌≡◌, ◌⊎◌, ◌<◌, ◌≤◌, ℕ, Bool, true, false, List, [], ◌∷◌, ◌++◌, length, replicate, Option, None, Some, IsSome}
+use Rattle.std.specs.Prelude.{◌≡◌, ◌<◌, ◌≤◌, ℕ, Bool, true, false, List, [], ◌∷◌, ◌++◌, replicate, Option, None, Some}
 use Rattle.std.proofs.Common.{refl, sym, ap, ap₂, ◌∙◌, subst, arith, inl, inr}
 use Rattle.std.proofs.lemmas.Bool.{false≢true}
 use Rattle.std.proofs.lemmas.Option.{none-some}
@@ -14,7 +14,7 @@ use Rattle.ff_unit.specs.DealKindLaws.{deal_takes-same}
 use Rattle.ff_unit.specs.DealPairLaws.{Pair, ArePut, ArePut-none, ArePut-added}
 use Rattle.ff_unit.specs.DealPickLaws.{IsPicked, IsTurn}
 use Rattle.ff_unit.specs.DealTakesLaws.{TiedCut-live, TiedAt-refused, deal_takes-tied}
-use Rattle.ff_unit.specs.DealTiedLaws.{TiedLive, TiedShut, TiedCut, TiedAt, Tied, IsTied}
+use Rattle.ff_unit.specs.DealTiedLaws.{TiedLive, TiedAt, IsTied}
 use Rattle.ff_unit.specs.Deals.{DealState, DealStep, DealGives, MayBeRefused, behind, deal_outs, deal_takes, on_outs, opened_deal, opening_deal}
 use Rattle.ff_unit.specs.RunLaws.{HasRun-keeps}
 use Rattle.ff_unit.specs.declared.dealing.Dealing.{Dealing}

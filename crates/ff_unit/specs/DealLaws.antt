@@ -1,5 +1,5 @@
 -- A deal keeps the laws of a unit.
-use Rattle.std.specs.Prelude.{◌≡◌, Bool, true, false, List, Option, IsSome}
+use Rattle.std.specs.Prelude.{List, IsSome}
 use Rattle.std.proofs.Common.{refl, sym, subst}
 use Rattle.std.proofs.lemmas.Bool.{false≢true}
 use Rattle.ff_node.specs.Runs.{Message}

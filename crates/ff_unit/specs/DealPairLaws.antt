@@ -1,7 +1,7 @@
 -- Messages in the order in which they are put, each with its out, and what of them goes to each out.
-use Rattle.std.specs.Prelude.{◌≡◌, ◌≢◌, ◌⊎◌, ◌+◌, ◌<◌, ◌≤◌, ◌==◌, if◌then◌else◌, ℕ, zero, suc, Bool, true, false, List, [], ◌∷◌, ◌++◌, length, map, replicate}
+use Rattle.std.specs.Prelude.{◌≡◌, ◌≢◌, ◌+◌, ◌<◌, ◌≤◌, ◌==◌, if◌then◌else◌, ℕ, zero, suc, Bool, true, false, List, [], ◌∷◌, ◌++◌, length, map, replicate}
 use Rattle.std.specs.List.{AllByRecursion}
-use Rattle.std.proofs.Common.{refl, sym, ap, ◌∙◌, subst, inl, inr, ⊎_elim, arith, cond, append-nil, append_assoc, length-set, get_or-set_same, get_or-set_other}
+use Rattle.std.proofs.Common.{refl, sym, ap, ◌∙◌, subst, ⊎_elim, arith, cond, append-nil, length-set, get_or-set_same, get_or-set_other}
 use Rattle.std.proofs.lemmas.Bool.{eq-eqb, cases_eq}
 use Rattle.std.proofs.lemmas.Bool.Decides.{eqb_tells}
 use Rattle.ff_rec.specs.Streams.{IsOpen, IsOpenMsg, at, added, unaborted, closed, GoesOn}
@@ -156,8 +156,8 @@ rows-closed f k (suc n) (l ∷ lists) number each =
     let same : k + 0 ≡ k = omega arith in
     let here : l ≡ closed (f k) = each 0 (omega arith) ∙ ap (λ i. closed (f i)) same in
     let rest : lists ≡ map closed (rows f (suc k) n) =
-        rows-closed f (suc k) n lists (omega (arith, number)) (λ j below.
-        let next : k + suc j ≡ suc k + j = omega arith in each (suc j) (omega arith) ∙ ap (λ i. closed (f i)) next) in
+    rows-closed f (suc k) n lists (omega (arith, number)) (λ j below.
+    let next : k + suc j ≡ suc k + j = omega arith in each (suc j) (omega arith) ∙ ap (λ i. closed (f i)) next) in
     ap (λ a. a ∷ lists) here ∙ ap (λ ls. closed (f k) ∷ ls) rest
 
 -- every out goes on
@@ -170,5 +170,5 @@ AllGoOn-rows f k (suc n) (l ∷ lists) number each =
     let same : k + 0 ≡ k = omega arith in (
       subst (λ i. GoesOn (unaborted l) (f i)) same (each 0 (omega arith)),
       AllGoOn-rows f (suc k) n lists (omega (arith, number)) (λ j below.
-      let next : k + suc j ≡ suc k + j = omega arith in subst (λ i. GoesOn (unaborted (at lists j)) (f i)) next (each (suc j) (omega arith))),
+          let next : k + suc j ≡ suc k + j = omega arith in subst (λ i. GoesOn (unaborted (at lists j)) (f i)) next (each (suc j) (omega arith))),
     )

@@ -1,6 +1,6 @@
 -- The ports of a deal are as its code asks.
-use Rattle.std.specs.Prelude.{◌≡◌, ◌+◌, ◌<◌, ◌≤◌, ℕ, zero, suc, Bool, true, false, List, [], ◌∷◌, ◌++◌, length, None, IsSome}
-use Rattle.std.proofs.Common.{refl, sym, ap, ◌∙◌, subst, arith}
+use Rattle.std.specs.Prelude.{◌≡◌, ◌+◌, ◌<◌, ◌≤◌, ℕ, zero, suc, Bool, true, false, List, [], ◌∷◌, length, IsSome}
+use Rattle.std.proofs.Common.{sym, ap, ◌∙◌, subst, arith}
 use Rattle.std.proofs.lemmas.Bool.{false≢true}
 use Rattle.ff_rec.specs.Streams.{IsOpen, at, items}
 use Rattle.ff_rec.specs.declared.msg.Msg.TheVariants.{Eos as EosMsg, Abort as AbortMsg}
@@ -8,7 +8,7 @@ use Rattle.ff_node.specs.Runs.{Message}
 use Rattle.ff_port.specs.declared.answers.End.{End}
 use Rattle.ff_port.specs.declared.answers.End.TheVariants.{Eos, Abort, Memory}
 use Rattle.ff_unit.specs.DealGivesLaws.{AreInner-held}
-use Rattle.ff_unit.specs.DealPairLaws.{Pair, IsInner, AreInner, AllByRecursion-front, AllByRecursion-back, on, IsOpen-on}
+use Rattle.ff_unit.specs.DealPairLaws.{Pair, IsInner, AreInner, AllByRecursion-front, AllByRecursion-back, IsOpen-on}
 use Rattle.ff_unit.specs.DealPickLaws.{sent, place-out, AreInner-sent}
 use Rattle.ff_unit.specs.DealTellingLaws.{on-untold}
 use Rattle.ff_unit.specs.DealTiedLaws.{IsTelling, TiedLive, TiedAt, IsTied}

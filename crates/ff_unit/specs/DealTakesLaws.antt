@@ -1,7 +1,7 @@
 -- A deal that takes a message, and one that is cut off, stay tied to their ports.
-use Rattle.std.specs.Prelude.{◌≡◌, ◌⊎◌, ◌+◌, ◌<◌, ◌≤◌, ℕ, suc, Bool, true, false, List, [], ◌∷◌, ◌++◌, length, Option, None, Some, IsSome}
+use Rattle.std.specs.Prelude.{◌≡◌, ◌<◌, ◌≤◌, ℕ, suc, Bool, true, false, List, [], ◌∷◌, ◌++◌, length, Option, None, Some, IsSome}
 use Rattle.std.specs.Option.{option_to_list}
-use Rattle.std.proofs.Common.{refl, sym, ap, ◌∙◌, subst, arith, append-nil, append_assoc, inl, inr, length-append}
+use Rattle.std.proofs.Common.{refl, sym, ap, ◌∙◌, subst, arith, append-nil, append_assoc, inr, length-append}
 use Rattle.std.proofs.lemmas.Bool.{false≢true}
 use Rattle.ff_rec.specs.Fields.{field_at}
 use Rattle.ff_rec.specs.Lines.{Rec}
@@ -13,7 +13,7 @@ use Rattle.ff_port.specs.declared.answers.End.{End}
 use Rattle.ff_port.specs.declared.answers.End.TheVariants.{Eos, Abort, Memory}
 use Rattle.ff_unit.specs.Closing.{spoiled}
 use Rattle.ff_unit.specs.DealPairLaws.{Pair}
-use Rattle.ff_unit.specs.DealPickLaws.{IsOnDemand, IsPicked, IsPicked-push, IsPlace, IsTurn, IsTurn-next, place_of-lt, sent, sent-push, turn_behind}
+use Rattle.ff_unit.specs.DealPickLaws.{IsOnDemand, IsPicked, IsPicked-push, IsPlace, IsTurn, IsTurn-next, place_of-lt, sent, sent-push}
 use Rattle.ff_unit.specs.DealTellingLaws.{IsTelling-start, IsTelling-refuses}
 use Rattle.ff_unit.specs.DealTiedLaws.{IsTelling, TiedLive, TiedShut, TiedCut, TiedAt, Tied}
 use Rattle.ff_unit.specs.Deals.{DealState, MayBeRefused, behind, deal_outs, deal_takes, deal_ends, deals, deals_one, next_place, on_outs}

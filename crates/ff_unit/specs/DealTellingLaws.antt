@@ -1,9 +1,9 @@
 -- Eos or Abort is told on every out.
-use Rattle.std.specs.Prelude.{◌≡◌, ◌+◌, ◌<◌, ◌≤◌, ℕ, zero, suc, List, [], ◌∷◌, ◌++◌, length, None}
+use Rattle.std.specs.Prelude.{◌≡◌, ◌+◌, ◌<◌, ◌≤◌, ℕ, zero, suc, List, [], ◌∷◌, ◌++◌, None}
 use Rattle.std.proofs.Common.{refl, sym, ap, ◌∙◌, subst, arith, append-nil, append_assoc}
-use Rattle.ff_rec.specs.Streams.{IsOpenMsg, IsOpen, at, closed}
+use Rattle.ff_rec.specs.Streams.{IsOpenMsg}
 use Rattle.ff_node.specs.Runs.{Message}
-use Rattle.ff_unit.specs.DealPairLaws.{Pair, on, on-append, on_outs-append, on-on_outs, on-on_outs-before, on-on_outs-behind}
+use Rattle.ff_unit.specs.DealPairLaws.{Pair, on, on-append, on_outs-append, on-on_outs, on-on_outs-behind}
 use Rattle.ff_unit.specs.DealTiedLaws.{IsTelling}
 use Rattle.ff_unit.specs.Deals.{on_outs, MayBeRefused}
 
@@ -24,17 +24,19 @@ IsTelling-next outs m front ps held k n held' first t = by t.left t.all (sym fir
         let rest : held' ≡ on_outs (suc t.told) left m = cc in
         let out : k ≡ t.told = ap (λ (p : Pair). p.0) pair in
         let one : t.told + 1 ≡ suc t.told = omega arith in
-        let from : 0 + t.told ≡ t.told = omega arith in
-        (omega (arith, all, out), record {
-          told = suc t.told;
-          left = left;
-          all = omega (arith, all);
-          were = ap (λ (p : Pair). ps ++ p ∷ []) pair
-              ∙ ap (λ l. l ++ (t.told, m) ∷ []) t.were
-              ∙ append_assoc front (on_outs 0 t.told m) ((t.told, m) ∷ [])
-              ∙ ap (λ l. front ++ l) (ap (λ i. on_outs 0 t.told m ++ on_outs i 1 m) (sym from) ∙ sym (on_outs-append 0 t.told 1 m) ∙ ap (λ i. on_outs 0 i m) one);
-          are = rest;
-        })
+        let from : 0 + t.told ≡ t.told = omega arith in (
+          omega (arith, all, out),
+          record {
+            told = suc t.told;
+            left = left;
+            all = omega (arith, all);
+            were = ap (λ (p : Pair). ps ++ p ∷ []) pair
+                ∙ ap (λ l. l ++ (t.told, m) ∷ []) t.were
+                ∙ append_assoc front (on_outs 0 t.told m) ((t.told, m) ∷ [])
+                ∙ ap (λ l. front ++ l) (ap (λ i. on_outs 0 t.told m ++ on_outs i 1 m) (sym from) ∙ sym (on_outs-append 0 t.told 1 m) ∙ ap (λ i. on_outs 0 i m) one);
+            are = rest;
+          },
+        )
 
 -- what is told isn't refused
 pub IsTelling-refuses : (outs : ℕ) (m : Message) (front ps held : List Pair) → (IsOpenMsg m → ⊥) → IsTelling outs m front ps held → MayBeRefused None held → ⊥
@@ -52,7 +54,7 @@ on-telling outs m front ps held j below t =
     let within : j < 0 + outs = omega (arith, below) in
     sym (on-append j ps held)
     ∙ ap (on j) (ap (λ l. l ++ held) t.were ∙ ap (λ l. (front ++ on_outs 0 t.told m) ++ l) t.are ∙ append_assoc front (on_outs 0 t.told m) (on_outs t.told t.left m)
-        ∙ ap (λ l. front ++ l) (ap (λ i. on_outs 0 t.told m ++ on_outs i t.left m) (sym from) ∙ sym (on_outs-append 0 t.told t.left m) ∙ ap (λ i. on_outs 0 i m) t.all))
+    ∙ ap (λ l. front ++ l) (ap (λ i. on_outs 0 t.told m ++ on_outs i t.left m) (sym from) ∙ sym (on_outs-append 0 t.told t.left m) ∙ ap (λ i. on_outs 0 i m) t.all))
     ∙ on-append j front (on_outs 0 outs m)
     ∙ ap (λ l. on j front ++ l) (on-on_outs j 0 outs m here within)
 

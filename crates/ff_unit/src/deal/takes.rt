@@ -79,22 +79,25 @@ impl Deal {
     /// What follows a record that went to this place: the Mark of its group, and the number of the place.
     pub(super) fn hold_behind(&mut self, place: u32)
         ensures { self.new ≡ record self.old {
-            held = behind self.old.way self.old.places place;
+          held = behind self.old.way self.old.places place;
         } }
     {
         self.held = match self.way {
             Dealing::InTurn | Dealing::OnDemand | Dealing::ByKey(_) => Held::nothing(),
             Dealing::GroupsInTurn => Held::one((place, Msg::Mark)),
-            Dealing::GroupsOnDemand => Held::two((place, Msg::Mark), (self.places, Msg::Pick(place))),
+            Dealing::GroupsOnDemand => Held::two(
+                (place, Msg::Mark),
+                (self.places, Msg::Pick(place)),
+            ),
         };
     }
 
     /// A put was refused memory: all that is held is dropped, and Abort is told on every out.
     pub(super) fn cut_off(&mut self)
         ensures { self.new ≡ record self.old {
-            free = None;
-            held = on_all (deal_outs self.old.way self.old.places) (AbortMsg ∷ []);
-            end = End.Memory;
+          free = None;
+          held = on_all (deal_outs self.old.way self.old.places) (AbortMsg ∷ []);
+          end = End.Memory;
         } }
     {
         self.free = None;

@@ -1,6 +1,5 @@
 use Rattle.std.proofs.Common.{◌+◌, ◌-◌, sym, ap, ◌∙◌, ◌++◌, ◌∷◌, Option}
 use Rattle.std.specs.Option.{option_to_list}
-use Rattle.ff_rec.specs.Lines.{Rec}
 use Rattle.ff_node.specs.Runs.{Message}
 use Rattle.ff_unit.specs.DealParts.{last_msg}
 use Rattle.ff_unit.specs.Deals.{on_outs}
