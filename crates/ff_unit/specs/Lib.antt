@@ -6,6 +6,7 @@ pub mod StageParts
 pub mod StageUnit
 pub mod Closing
 pub mod Deals
+pub mod DealParts
 pub mod Merges
 pub mod Takes
 -- lemmas: nothing to trust
@@ -15,6 +16,19 @@ pub mod FlagLaws
 pub mod CarriedLaws
 pub mod ShareLaws
 pub mod TakenLaws
+pub mod DealPairLaws
+pub mod DealPickLaws
+pub mod DealFitsLaws
+pub mod DealTiedLaws
+pub mod DealKindLaws
+pub mod DealTellingLaws
+pub mod DealGivesLaws
+pub mod DealTakesLaws
+pub mod DealKeptLaws
+pub mod DealReadyLaws
+pub mod DealBeginsLaws
+pub mod DealAbortLaws
+pub mod DealLaws
 pub mod AnswerLaws
 pub mod RefusalLaws
 pub mod StageKindLaws

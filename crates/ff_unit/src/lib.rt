@@ -1,11 +1,13 @@
-//! The units of a network: what each of them is seen as and promises, and those that work on one stream. A stage runs a node
-//! between its in and its out.
+//! The units of a network: what each of them is seen as and promises, and those that don't keep an order between several streams. A
+//! stage runs a node between its in and its out, a deal hands records out to several outs, and a merge brings several ins together.
 #![tactic(auto)]
 
 mod aborts;
 mod closing;
+mod deal;
 mod dealing;
 mod flags;
+mod keys;
 mod merge;
 mod mode;
 mod stage;
@@ -13,8 +15,10 @@ mod takes;
 mod unit;
 
 pub use closing::{last_message, spoil};
+pub use deal::Deal;
 pub use dealing::Dealing;
 pub use flags::Flags;
+pub use keys::key_place;
 pub use merge::Merge;
 pub use mode::Mode;
 pub use stage::Stage;
