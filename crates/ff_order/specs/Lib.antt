@@ -1,1 +1,7 @@
 pub mod OMerges
+-- lemmas: nothing to trust
+pub mod GroupLaws
+pub mod PortLaws
+pub mod OMergeTiedLaws
+pub mod PickLaws
+pub mod OMergeLeftLaws
