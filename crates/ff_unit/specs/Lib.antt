@@ -7,8 +7,11 @@ pub mod StageUnit
 pub mod Closing
 pub mod Deals
 pub mod Merges
+pub mod Takes
 -- lemmas: nothing to trust
 pub mod MessageLaws
+pub mod RunLaws
+pub mod FlagLaws
 pub mod AnswerLaws
 pub mod RefusalLaws
 pub mod StageKindLaws

@@ -4,11 +4,15 @@
 
 mod aborts;
 mod dealing;
+mod flags;
 mod mode;
 mod stage;
+mod takes;
 mod unit;
 
 pub use dealing::Dealing;
+pub use flags::Flags;
 pub use mode::Mode;
 pub use stage::Stage;
+pub use takes::take_any;
 pub use unit::Unit;
