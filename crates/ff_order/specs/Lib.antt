@@ -5,3 +5,4 @@ pub mod PortLaws
 pub mod OMergeTiedLaws
 pub mod PickLaws
 pub mod OMergeLeftLaws
+pub mod OMergeTakesLaws

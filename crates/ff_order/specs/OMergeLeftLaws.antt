@@ -180,3 +180,26 @@ module _ (n : ℕ) (gots ins : List (List Message)) (all ys : List Rec)
   IsLeft-no_mark fits =
       let next = next-pick Mark refl fits in
       picks-item l.picks_left.rest Mark next.0 (λ e. cc) (λ w e. cc) next.1
+
+-- what the messages of the in of the picks do
+pub record PicksGo (order : Order) (n due : ℕ) (gots ins : List (List Message)) (all ys : List Rec) : Type 0 where
+  pub pick : (w : ℕ) → AllGoOn (added gots due (Pick w)) ins → (w < n) × IsLeft order n w (added gots due (Pick w)) ins all ys
+  pub last : AllGoOn (added gots due EosMsg) ins → all ≡ ys
+  pub no_item : (x : Rec) → AllGoOn (added gots due (Item x)) ins → ⊥
+  pub no_mark : AllGoOn (added gots due Mark) ins → ⊥
+
+-- an in that is due and no place is that of the picks
+pub IsLeft-picks : (order : Order) (n due : ℕ) (gots ins : List (List Message)) (all ys : List Rec) → 1 ≤ n → n ≤ due → due < omerge_ins order n → due < length gots
+    → IsOpen (at gots due) → IsLeft order n due gots ins all ys → PicksGo order n due gots ins all ys
+IsLeft-picks InTurn n due gots ins all ys some above within due_in got l = absurd (omega arith)
+IsLeft-picks ByPick n due gots ins all ys some above within due_in got l =
+    let e : n ≡ due = omega arith in
+    subst (λ d. d < length gots → IsOpen (at gots d) → IsLeft ByPick n d gots ins all ys → PicksGo ByPick n d gots ins all ys) e at_picks due_in got l
+  where
+    at_picks : n < length gots → IsOpen (at gots n) → IsLeft ByPick n n gots ins all ys → PicksGo ByPick n n gots ins all ys
+    at_picks due_in got l = record {
+      pick = IsLeft-pick n gots ins all ys some due_in got l;
+      last = IsLeft-last n gots ins all ys some due_in got l;
+      no_item = IsLeft-no_item n gots ins all ys some due_in got l;
+      no_mark = IsLeft-no_mark n gots ins all ys some due_in got l;
+    }
