@@ -6,3 +6,5 @@ pub mod OMergeTiedLaws
 pub mod PickLaws
 pub mod OMergeLeftLaws
 pub mod OMergeTakesLaws
+pub mod OMergeKeptLaws
+pub mod OMergeRunLaws
