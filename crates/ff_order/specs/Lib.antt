@@ -8,3 +8,6 @@ pub mod OMergeLeftLaws
 pub mod OMergeTakesLaws
 pub mod OMergeKeptLaws
 pub mod OMergeRunLaws
+pub mod MergedLaws
+pub mod OMergeFitsLaws
+pub mod OMergeLaws

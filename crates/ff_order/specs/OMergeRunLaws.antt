@@ -1,13 +1,13 @@
 -- Every run of an ordered merge keeps it tied to its ports.
 use Rattle.std.specs.Prelude.{slice_index_or, replicate}
-use Rattle.std.proofs.Common.{◌≡◌, ◌⊎◌, ℕ, zero, suc, ◌+◌, ◌<◌, ◌≤◌, Bool, true, false, List, [], ◌∷◌, ◌++◌, length, map, refl, sym, ap, ◌∙◌, subst, append_assoc, append-nil, arith, inl, inr, length-set}
+use Rattle.std.proofs.Common.{◌≡◌, ◌⊎◌, ℕ, zero, suc, ◌+◌, ◌<◌, ◌≤◌, Bool, true, false, List, [], ◌∷◌, ◌++◌, length, map, cond, refl, sym, ap, ◌∙◌, subst, append_assoc, append-nil, arith, inl, inr, length-set, le-ltb, mod-eq_of_lt}
 use Rattle.std.specs.List.{AllByRecursion}
 use Rattle.std.proofs.lemmas.Bool.{false≢true}
 use Rattle.std.proofs.lemmas.List.{length-replicate}
 use Rattle.ff_rec.specs.Lines.{Rec}
 use Rattle.ff_rec.specs.Streams.{IsOpen, at, added, carried}
 use Rattle.ff_rec.specs.declared.msg.Msg.TheVariants.{Item, Mark, Pick, Eos as EosMsg, Abort as AbortMsg}
-use Rattle.ff_node.specs.Fits.{HoldGroups, gather}
+use Rattle.ff_node.specs.Fits.{HoldGroups, gather, grouped, all_marks}
 use Rattle.ff_node.specs.Runs.{Message, Act, Took, Gave, Refused, Idle, Told, Handed, took, gave, HasRun}
 use Rattle.ff_port.specs.declared.answers.End.{End}
 use Rattle.ff_port.specs.declared.answers.End.TheVariants.{Eos, Abort, Memory}
@@ -22,7 +22,7 @@ use Rattle.ff_unit.specs.declared.mode.Mode.TheVariants.{Live, Shut, Cut}
 use Rattle.ff_order.specs.OMerges.{OMergeState, OMergeStep, OMergeReady, omerge_ins, first_due, opened_omerge, opening_omerge, omerge_takes, IsDue}
 use Rattle.ff_order.specs.OMergeKeptLaws.{IsKept, IsAbortMsg, omerge_takes-kept}
 use Rattle.ff_order.specs.OMergeTakesLaws.{omerge_takes-tied, live_begun}
-use Rattle.ff_order.specs.OMergeTiedLaws.{Meets, ForMerged, IsLeft, BeginsAll, Begun, TiedLive, TiedShut, TiedCut, TiedAt, TiedTo, eos_after}
+use Rattle.ff_order.specs.OMergeTiedLaws.{ArePicksOf, PicksLeft, Meets, ForMerged, IsLeft, BeginsAll, Begun, TiedLive, TiedShut, TiedCut, TiedAt, TiedTo, eos_after}
 use Rattle.ff_order.specs.PortLaws.{FlagsFit}
 use Rattle.ff_order.specs.declared.order.Order.{Order}
 use Rattle.ff_order.specs.declared.order.Order.TheVariants.{InTurn, ByPick}
@@ -221,3 +221,60 @@ IsTied-step u gots puts Idle v t (inr s) = subst (λ w. IsTied w gots puts) (sym
 })
 IsTied-step u gots puts Told v t s = subst (λ w. IsTied w gots puts) (sym s.1) (told-tied u gots puts t s.0)
 IsTied-step u gots puts (Handed x) v t s = absurd s
+
+-- nothing was taken, at first
+FlagsFit-start : (n : ℕ) → FlagsFit (all_live n) (replicate n [])
+FlagsFit-start zero = tt
+FlagsFit-start (suc n) = (tt, FlagsFit-start n)
+
+at-start : (n j : ℕ) → at {T = Rec} (replicate n []) j ≡ []
+at-start zero j = refl
+at-start (suc n) zero = refl
+at-start (suc n) (suc j) = at-start n j
+
+PicksLeft-start : (order : Order) (n : ℕ) (ins : List (List Message)) (picks : List ℕ) → 1 ≤ n → ArePicksOf order n ins picks
+    → PicksLeft order n (first_due order n) (replicate (omerge_ins order n) []) ins picks
+PicksLeft-start InTurn n ins picks some are = record { from = 0; count = all_marks ins; is_due = sym (mod-eq_of_lt (omega arith)); are = are }
+PicksLeft-start ByPick n ins picks some are = record {
+  rest = picks;
+  are = ap (λ b. cond b (n ∷ picks) picks) (sym (le-ltb n n (omega arith)));
+  told = are.0 ∙ ap (λ l. l ++ map (λ w. Pick w) picks) (sym (at-start (suc n) n));
+  within = are.1;
+}
+
+first_due-within : (order : Order) (n : ℕ) → 1 ≤ n → first_due order n < omerge_ins order n
+first_due-within InTurn n some = omega arith
+first_due-within ByPick n some = omega arith
+
+IsTied-start : (order : Order) (n : ℕ) → 1 ≤ n → IsTied (opened_omerge order n) (replicate (omerge_ins order n) []) ([] ∷ [])
+IsTied-start order n some = record {
+  some = some;
+  ins = length-replicate (omerge_ins order n) [];
+  lives = length-all_live (omerge_ins order n);
+  due = first_due-within order n some;
+  put = [];
+  puts_are = refl;
+  tied = record {
+    ys = [];
+    is = refl;
+    all = refl;
+    ends = refl;
+    flags = FlagsFit-start (omerge_ins order n);
+    left = λ ins picks groups h. record {
+      picks = picks;
+      groups = groups;
+      joins = refl;
+      shares = λ j below. (h.hold j below).0 ∙ ap (λ l. l ++ grouped (groups j)) (sym (at-start (omerge_ins order n) j));
+      lengths = λ j below. (h.hold j below).1;
+      picks_left = PicksLeft-start order n ins picks some h.picks_are;
+    };
+  };
+  ended = λ done. absurd (false≢true done);
+  cause = λ e. absurd (cc);
+}
+
+-- every run is such
+pub HasRun-tied : (u : OMergeState) (gots puts : List (List Message)) → 1 ≤ u.places
+    → HasRun OMergeStep (opening_omerge u) (omerge_ins u.order u.places) 1 u gots puts → IsTied u gots puts
+HasRun-tied u gots puts some run =
+    HasRun-keeps OMergeStep IsTied (opening_omerge u) (omerge_ins u.order u.places) 1 (IsTied-start u.order u.places some) IsTied-step u gots puts run
