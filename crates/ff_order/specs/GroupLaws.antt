@@ -1,10 +1,10 @@
 -- Groups on an in: what its next message tells of them, and how they are joined.
-use Rattle.std.proofs.Common.{◌≡◌, ℕ, suc, ◌+◌, ◌<◌, ◌⊎◌, Bool, true, false, cond, eqb, List, [], ◌∷◌, ◌++◌, length, map, refl, sym, ap, ap₂, ◌∙◌, subst, append_assoc, arith, inl, inr, eq-eqb, ne_eqb, eqb-true}
+use Rattle.std.proofs.Common.{◌≡◌, ℕ, suc, ◌<◌, ◌⊎◌, cond, eqb, List, [], ◌∷◌, ◌++◌, refl, sym, ap, ap₂, ◌∙◌, arith, inl, inr, eq-eqb, ne_eqb}
 use Rattle.std.specs.List.{AllByRecursion}
 use Rattle.std.proofs.lemmas.Bool.{cases_eq}
 use Rattle.ff_rec.specs.Lines.{Rec}
-use Rattle.ff_rec.specs.Streams.{carried, closed}
-use Rattle.ff_rec.specs.declared.msg.Msg.TheVariants.{Item, Mark, Pick, Eos as EosMsg, Abort as AbortMsg}
+use Rattle.ff_rec.specs.Streams.{closed}
+use Rattle.ff_rec.specs.declared.msg.Msg.TheVariants.{Item, Mark, Pick, Eos as EosMsg}
 use Rattle.ff_node.specs.Fits.{grouped, without_first, first_group, gather, picked}
 use Rattle.ff_node.specs.Runs.{Message}
 
@@ -75,7 +75,7 @@ pub gather-item : (groups : ℕ → List (List Rec)) (w : ℕ) (picks : List ℕ
     → groups w ≡ (x ∷ group) ∷ rest → gather (w ∷ picks) groups ≡ x ∷ gather (w ∷ picks) (replaced_at groups w (group ∷ rest))
 gather-item groups w picks x group rest is =
     ap₂ (λ a b. a ++ b) (ap first_group is) (gather-equal picks (without_first groups w) (without_first after w) others)
-        ∙ ap (λ gs. x ∷ (first_group gs ++ gather picks (without_first after w))) (sym (replaced_at-here groups w w (group ∷ rest) refl))
+    ∙ ap (λ gs. x ∷ (first_group gs ++ gather picks (without_first after w))) (sym (replaced_at-here groups w w (group ∷ rest) refl))
   where
     after : ℕ → List (List Rec)
     after = replaced_at groups w (group ∷ rest)

@@ -1,10 +1,10 @@
 -- What whole ins are merged to: one list, which groups and picks they hold being read off them.
-use Rattle.std.proofs.Common.{◌≡◌, ℕ, zero, suc, ◌+◌, ◌%◌, ◌<◌, ◌≤◌, List, [], ◌∷◌, ◌++◌, length, map, refl, sym, ap, ◌∙◌, subst, append_assoc, arith, mod-lt}
+use Rattle.std.proofs.Common.{◌≡◌, ℕ, zero, suc, ◌<◌, ◌≤◌, List, [], ◌∷◌, ◌++◌, length, map, refl, sym, ap, ◌∙◌, subst, arith}
 use Rattle.std.specs.List.{AllByRecursion}
 use Rattle.ff_rec.specs.Lines.{Rec}
 use Rattle.ff_rec.specs.Streams.{at, carried}
 use Rattle.ff_rec.specs.declared.msg.Msg.TheVariants.{Item, Mark, Pick, Eos as EosMsg, Abort as AbortMsg}
-use Rattle.ff_node.specs.Fits.{grouped, gather, HoldGroups, all_marks, FitsTurnMerge, FitsPickMerge}
+use Rattle.ff_node.specs.Fits.{grouped, gather, HoldGroups, all_marks}
 use Rattle.ff_node.specs.Picks.{turns, turns_from}
 use Rattle.ff_node.specs.Runs.{Message}
 use Rattle.ff_order.specs.GroupLaws.{gather-same}

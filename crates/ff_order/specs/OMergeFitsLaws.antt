@@ -1,16 +1,16 @@
 -- What a run of an ordered merge has put begins what its ins are merged to, and is all of it where it ended by Eos.
 use Rattle.std.specs.Prelude.{slice_index_or}
-use Rattle.std.proofs.Common.{◌≡◌, ◌⊎◌, ℕ, suc, ◌+◌, ◌<◌, ◌≤◌, Bool, true, false, List, [], ◌∷◌, ◌++◌, length, map, drop, Option, None, Some, refl, sym, ap, ◌∙◌, subst, append_assoc, append-nil, arith, inl, inr, drop_at}
+use Rattle.std.proofs.Common.{◌≡◌, ◌⊎◌, ℕ, ◌≤◌, Bool, true, false, List, [], ◌∷◌, ◌++◌, length, drop, refl, sym, ap, ◌∙◌, subst, append_assoc, append-nil, arith, inl, inr, drop_at}
 use Rattle.std.proofs.lemmas.Bool.{false≢true}
 use Rattle.std.proofs.lemmas.List.{get_or-replicate, map-append}
 use Rattle.ff_rec.specs.Lines.{Rec}
-use Rattle.ff_rec.specs.Streams.{IsOpen, at, carried, unaborted, closed, GoesOn}
-use Rattle.ff_rec.specs.declared.msg.Msg.TheVariants.{Item, Eos as EosMsg, Abort as AbortMsg}
-use Rattle.ff_node.specs.Fits.{HoldGroups, gather}
-use Rattle.ff_node.specs.Runs.{Message, AllGoOn, HasOuts, BeginsToFit, FitsWhole}
+use Rattle.ff_rec.specs.Streams.{IsOpen, at, carried, unaborted, closed}
+use Rattle.ff_rec.specs.declared.msg.Msg.TheVariants.{Item, Eos as EosMsg}
+use Rattle.ff_node.specs.Fits.{gather}
+use Rattle.ff_node.specs.Runs.{Message, HasOuts, BeginsToFit, FitsWhole}
 use Rattle.ff_port.specs.declared.answers.End.{End}
-use Rattle.ff_port.specs.declared.answers.End.TheVariants.{Eos, Abort, Memory}
-use Rattle.ff_unit.specs.Closing.{IsLive, any_live, all_live, decided}
+use Rattle.ff_port.specs.declared.answers.End.TheVariants.{Eos}
+use Rattle.ff_unit.specs.Closing.{IsLive, any_live}
 use Rattle.ff_unit.specs.FlagLaws.{any_live-all}
 use Rattle.ff_unit.specs.MessageLaws.{IsOpen-carried, unaborted-append, unaborted-open, unaborted-cut}
 use Rattle.ff_unit.specs.declared.mode.Mode.{Mode}
@@ -18,8 +18,8 @@ use Rattle.ff_unit.specs.declared.mode.Mode.TheVariants.{Live, Shut, Cut}
 use Rattle.ff_order.specs.MergedLaws.{merged, gather-merged, FitsOMerge-from}
 use Rattle.ff_order.specs.OMerges.{OMergeState, OMergeReady, FitsOMerge, omerge_ins}
 use Rattle.ff_order.specs.OMergeRunLaws.{IsTied, TiedAt-begun}
-use Rattle.ff_order.specs.OMergeTiedLaws.{ArePicksOf, Meets, Begun, TiedLive, TiedShut, TiedCut, TiedAt, TiedTo, eos_after}
-use Rattle.ff_order.specs.PortLaws.{AllGoOn-length, AreWhole, FlagsFit-whole}
+use Rattle.ff_order.specs.OMergeTiedLaws.{Meets, Begun, TiedAt, eos_after}
+use Rattle.ff_order.specs.PortLaws.{AllGoOn-length, FlagsFit-whole}
 use Rattle.ff_order.specs.declared.order.Order.{Order}
 use Rattle.ff_order.specs.declared.order.Order.TheVariants.{InTurn, ByPick}
 
@@ -38,9 +38,9 @@ Begun-answer order n gots ins p some b = record {
   is = ap closed (map-append (λ y. Item y) b.ys rest) ∙ append_assoc (carried b.ys) (carried rest) (EosMsg ∷ [])
       ∙ ap (λ l. l ++ closed (carried rest)) (sym (unaborted-open (carried b.ys) (IsOpen-carried b.ys)) ∙ ap unaborted (sym b.is));
   fits = λ picks groups h.
-    let more = b.begins ins picks groups h in
-    let all = gather-merged order n gots ins picks groups some h in
-    ap (λ l. b.ys ++ drop (length b.ys) l) (sym all ∙ more.is) ∙ ap (λ l. b.ys ++ l) (drop_at b.ys more.more (length b.ys) refl) ∙ sym more.is;
+      let more = b.begins ins picks groups h in
+      let all = gather-merged order n gots ins picks groups some h in
+      ap (λ l. b.ys ++ drop (length b.ys) l) (sym all ∙ more.is) ∙ ap (λ l. b.ys ++ l) (drop_at b.ys more.more (length b.ys) refl) ∙ sym more.is;
 }
   where
     rest : List Rec
@@ -101,7 +101,7 @@ module _ (u : OMergeState) (gots puts : List (List Message)) (t : IsTied u gots 
       open_out [] e = inl e
       open_out (m ∷ held) e =
           let b = TiedAt-begun u.mode u.order u.places u.due u.live u.end gots t.put m held
-              (subst (λ h. TiedAt u.mode u.order u.places u.due u.live u.end gots (t.put ++ h)) e t.tied) in
+          (subst (λ h. TiedAt u.mode u.order u.places u.due u.live u.end gots (t.put ++ h)) e t.tied) in
           inr (subst IsOpen (sym b.is) (IsOpen-carried b.ys))
 
   -- however its ins go on, its out can go on so that it fits

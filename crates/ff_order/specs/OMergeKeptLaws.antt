@@ -1,6 +1,6 @@
 -- What an ordered merge keeps of its state when it takes a message.
-use Rattle.std.specs.Prelude.{slice_set, slice_index_or}
-use Rattle.std.proofs.Common.{◌≡◌, ◌⊎◌, ℕ, suc, ◌+◌, ◌<◌, ◌≤◌, Bool, true, false, cond, eqb, ltb, List, [], ◌∷◌, ◌++◌, length, refl, sym, ap, ◌∙◌, subst, arith, inl, inr, length-set, lt-ltb, le-ltb, eq-eqb, ne_eqb}
+use Rattle.std.specs.Prelude.{slice_set}
+use Rattle.std.proofs.Common.{◌≡◌, ◌⊎◌, ℕ, suc, ◌<◌, ◌≤◌, Bool, true, false, cond, ltb, [], ◌∷◌, length, refl, arith, inl, inr, length-set, lt-ltb, le-ltb, eq-eqb, ne_eqb}
 use Rattle.std.proofs.lemmas.Bool.{cases_eq, cases_lt}
 use Rattle.ff_rec.specs.declared.msg.Msg.TheVariants.{Item, Mark, Pick, Eos as EosMsg, Abort as AbortMsg}
 use Rattle.ff_node.specs.Runs.{Message}
@@ -9,7 +9,7 @@ use Rattle.ff_unit.specs.Closing.{any_live}
 use Rattle.ff_unit.specs.Deals.{next_place}
 use Rattle.ff_unit.specs.declared.mode.Mode.{Mode}
 use Rattle.ff_unit.specs.declared.mode.Mode.TheVariants.{Live, Shut, Cut}
-use Rattle.ff_order.specs.OMerges.{OMergeState, omerge_ins, next_due, omerge_closes, omerge_cuts, omerge_takes, omerge_gets, omerge_ended, omerge_spoiled, gets_group, gets_pick, IsDue}
+use Rattle.ff_order.specs.OMerges.{OMergeState, omerge_ins, next_due, omerge_closes, omerge_cuts, omerge_takes, omerge_gets, omerge_ended, omerge_spoiled, gets_group, gets_pick}
 use Rattle.ff_order.specs.declared.order.Order.{Order}
 use Rattle.ff_order.specs.declared.order.Order.TheVariants.{InTurn, ByPick}
 

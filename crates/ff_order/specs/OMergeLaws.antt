@@ -1,10 +1,10 @@
 -- An ordered merge keeps the laws of a unit.
-use Rattle.std.proofs.Common.{◌≡◌, ◌⊎◌, ℕ, ◌≤◌, Bool, true, false, List, [], ◌∷◌, length, Option, None, Some, refl, sym, ap, ap₂, ◌∙◌, subst, inl, inr}
+use Rattle.std.proofs.Common.{◌≡◌, Bool, true, false, List, [], ◌∷◌, Some, refl, sym, ap, ap₂, ◌∙◌, subst, inl, inr}
 use Rattle.std.specs.Prelude.{IsSome}
 use Rattle.ff_rec.specs.declared.msg.Msg.TheVariants.{Abort as AbortMsg}
 use Rattle.ff_node.specs.Runs.{Message, Act, Took, Gave, Refused, Idle, Told, Handed, Leads}
 use Rattle.ff_port.specs.declared.answers.End.{End}
-use Rattle.ff_port.specs.declared.answers.End.TheVariants.{Eos, Abort, Memory}
+use Rattle.ff_port.specs.declared.answers.End.TheVariants.{Eos, Abort}
 use Rattle.ff_unit.specs.Closing.{any_live, none_live, decided}
 use Rattle.ff_unit.specs.FlagLaws.{any_live-none}
 use Rattle.ff_unit.specs.Units.{IsUnit, Ran, told_by, taken_by, told_acts}
@@ -56,8 +56,11 @@ Leads-aborted u fresh =
     let given = record u { live = live; held = []; mode = Cut; end = Abort; told = true } in (
       given,
       (told, (u, refl, (fresh, refl)), (refl, refl, refl)),
-      inr (refl, any_live-none (omerge_ins u.order u.places),
-      ap (λ (h : List Message). record u { live = live; held = h; mode = Cut; end = Abort; done = true; told = true }) none),
+      inr (
+        refl,
+        any_live-none (omerge_ins u.order u.places),
+        ap (λ (h : List Message). record u { live = live; held = h; mode = Cut; end = Abort; done = true; told = true }) none,
+      ),
     )
 
 tied : (u : OMergeState) (gots puts : List (List Message)) → Ran omerge_does u gots puts → IsTied u gots puts

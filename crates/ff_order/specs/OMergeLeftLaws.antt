@@ -1,15 +1,15 @@
 -- What is left of whole ins after the in that is due gave a message.
-use Rattle.std.proofs.Common.{◌≡◌, ◌⊎◌, ℕ, zero, suc, ◌+◌, ◌<◌, ◌≤◌, cond, ltb, List, [], ◌∷◌, ◌++◌, length, map, refl, sym, ap, ◌∙◌, subst, append_assoc, append-nil, append-nil, arith, inl, inr, lt-ltb, le-ltb, length-set}
+use Rattle.std.proofs.Common.{◌≡◌, ◌⊎◌, ℕ, suc, ◌<◌, ◌≤◌, cond, List, [], ◌∷◌, ◌++◌, length, map, refl, sym, ap, ◌∙◌, subst, append_assoc, append-nil, append-nil, arith, inl, inr, lt-ltb, le-ltb, length-set}
 use Rattle.std.proofs.lemmas.Bool.{cases_eq}
 use Rattle.std.specs.List.{AllByRecursion}
 use Rattle.ff_rec.specs.Lines.{Rec}
-use Rattle.ff_rec.specs.Streams.{IsOpen, at, added, carried, unaborted, closed, GoesOn}
-use Rattle.ff_rec.specs.declared.msg.Msg.TheVariants.{Item, Mark, Pick, Eos as EosMsg, Abort as AbortMsg}
+use Rattle.ff_rec.specs.Streams.{IsOpen, at, added, unaborted, closed, GoesOn}
+use Rattle.ff_rec.specs.declared.msg.Msg.TheVariants.{Item, Mark, Pick, Eos as EosMsg}
 use Rattle.ff_node.specs.Fits.{grouped, gather, picked, without_first, first_group}
 use Rattle.ff_node.specs.Runs.{Message, AllGoOn}
 use Rattle.ff_order.specs.GroupLaws.{GoesOnBy, grouped-item, grouped-mark, grouped-eos, grouped-pick, replaced_at, replaced_at-here, replaced_at-other, without_first-here, without_first-other, gather-item, picked-here, picked-other}
 use Rattle.ff_order.specs.OMerges.{omerge_ins, next_due}
-use Rattle.ff_order.specs.OMergeTiedLaws.{IsLeft, PicksLeft, PicksToCome}
+use Rattle.ff_order.specs.OMergeTiedLaws.{IsLeft}
 use Rattle.ff_order.specs.PickLaws.{IsFirstPick, PicksLeft-first, PicksLeft-none, IsNextPick, picks-pick, picks-eos, picks-item}
 use Rattle.ff_order.specs.PortLaws.{at-added, at-others, AllGoOn-at, GoesOn-next}
 use Rattle.ff_order.specs.declared.order.Order.{Order}
@@ -30,7 +30,7 @@ module _ (order : Order) (n due : ℕ) (gots ins : List (List Message)) (all ys 
       → at ins j ≡ at gots j ++ grouped before → at ins j ≡ at (added gots due m) j ++ grouped after
   share-here j m before after e step share =
       let there : at (added gots due m) j ≡ at gots j ++ m ∷ [] =
-          subst (λ j. at (added gots due m) j ≡ at gots j ++ m ∷ []) e (at-added gots due m due_in) in
+      subst (λ j. at (added gots due m) j ≡ at gots j ++ m ∷ []) e (at-added gots due m due_in) in
       share ∙ ap (λ r. at gots j ++ r) step ∙ sym (append_assoc (at gots j) (m ∷ []) (grouped after)) ∙ ap (λ g. g ++ grouped after) (sym there)
 
   share-other : (j : ℕ) (m : Message) (before : List Message) → (due ≡ j → ⊥) → at ins j ≡ at gots j ++ before → at ins j ≡ at (added gots due m) j ++ before

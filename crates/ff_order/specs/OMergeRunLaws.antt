@@ -1,28 +1,27 @@
 -- Every run of an ordered merge keeps it tied to its ports.
-use Rattle.std.specs.Prelude.{slice_index_or, replicate}
-use Rattle.std.proofs.Common.{◌≡◌, ◌⊎◌, ℕ, zero, suc, ◌+◌, ◌<◌, ◌≤◌, Bool, true, false, List, [], ◌∷◌, ◌++◌, length, map, cond, refl, sym, ap, ◌∙◌, subst, append_assoc, append-nil, arith, inl, inr, length-set, le-ltb, mod-eq_of_lt}
-use Rattle.std.specs.List.{AllByRecursion}
+use Rattle.std.specs.Prelude.{replicate}
+use Rattle.std.proofs.Common.{◌≡◌, ◌⊎◌, ℕ, zero, suc, ◌<◌, ◌≤◌, Bool, true, false, List, [], ◌∷◌, ◌++◌, length, map, cond, refl, sym, ap, ◌∙◌, subst, append_assoc, append-nil, arith, inl, inr, length-set, le-ltb, mod-eq_of_lt}
 use Rattle.std.proofs.lemmas.Bool.{false≢true}
 use Rattle.std.proofs.lemmas.List.{length-replicate}
 use Rattle.ff_rec.specs.Lines.{Rec}
-use Rattle.ff_rec.specs.Streams.{IsOpen, at, added, carried}
+use Rattle.ff_rec.specs.Streams.{at, added, carried}
 use Rattle.ff_rec.specs.declared.msg.Msg.TheVariants.{Item, Mark, Pick, Eos as EosMsg, Abort as AbortMsg}
-use Rattle.ff_node.specs.Fits.{HoldGroups, gather, grouped, all_marks}
+use Rattle.ff_node.specs.Fits.{gather, grouped, all_marks}
 use Rattle.ff_node.specs.Runs.{Message, Act, Took, Gave, Refused, Idle, Told, Handed, took, gave, HasRun}
 use Rattle.ff_port.specs.declared.answers.End.{End}
-use Rattle.ff_port.specs.declared.answers.End.TheVariants.{Eos, Abort, Memory}
+use Rattle.ff_port.specs.declared.answers.End.TheVariants.{Abort, Memory}
 use Rattle.ff_unit.specs.Closing.{IsLive, any_live, all_live, none_live}
 use Rattle.ff_unit.specs.FlagLaws.{IsLive-within, any_live-at, length-all_live, length-none_live}
-use Rattle.ff_unit.specs.MessageLaws.{IsOpen-carried, IsOpen-front, before_last}
+use Rattle.ff_unit.specs.MessageLaws.{before_last}
 use Rattle.ff_unit.specs.RunLaws.{HasRun-keeps}
 use Rattle.ff_unit.specs.StageSteps.{IsOpenFront}
 use Rattle.ff_unit.specs.Units.{HasAbort, TookAbort}
 use Rattle.ff_unit.specs.declared.mode.Mode.{Mode}
 use Rattle.ff_unit.specs.declared.mode.Mode.TheVariants.{Live, Shut, Cut}
-use Rattle.ff_order.specs.OMerges.{OMergeState, OMergeStep, OMergeReady, omerge_ins, first_due, opened_omerge, opening_omerge, omerge_takes, IsDue}
+use Rattle.ff_order.specs.OMerges.{OMergeState, OMergeStep, omerge_ins, first_due, opened_omerge, opening_omerge, omerge_takes, IsDue}
 use Rattle.ff_order.specs.OMergeKeptLaws.{IsKept, IsAbortMsg, omerge_takes-kept}
 use Rattle.ff_order.specs.OMergeTakesLaws.{omerge_takes-tied, live_begun}
-use Rattle.ff_order.specs.OMergeTiedLaws.{ArePicksOf, PicksLeft, Meets, ForMerged, IsLeft, BeginsAll, Begun, TiedLive, TiedShut, TiedCut, TiedAt, TiedTo, eos_after}
+use Rattle.ff_order.specs.OMergeTiedLaws.{ArePicksOf, PicksLeft, Begun, TiedLive, TiedAt, TiedTo, eos_after}
 use Rattle.ff_order.specs.PortLaws.{FlagsFit}
 use Rattle.ff_order.specs.declared.order.Order.{Order}
 use Rattle.ff_order.specs.declared.order.Order.TheVariants.{InTurn, ByPick}
@@ -93,8 +92,8 @@ Begun-front order n gots p zs whole e b =
       ys = f.front;
       is = f.is;
       begins = λ ins picks groups h.
-        let more = b.begins ins picks groups h in
-        record { more = f.back ++ more.more; is = more.is ∙ ap (λ l. l ++ more.more) f.all ∙ append_assoc f.front f.back more.more };
+          let more = b.begins ins picks groups h in
+          record { more = f.back ++ more.more; is = more.is ∙ ap (λ l. l ++ more.more) f.all ∙ append_assoc f.front f.back more.more };
     }
 
 -- what was put begins what is merged, where something is held behind it
@@ -126,7 +125,7 @@ module _ (u : OMergeState) (gots puts : List (List Message)) (t : IsTied u gots 
   took-tied k m none on due =
       let kept = omerge_takes-kept u k m in
       let ins_same : omerge_ins u.order u.places ≡ omerge_ins (omerge_takes u k m).order (omerge_takes u k m).places =
-          ap (λ o. omerge_ins o u.places) (sym kept.order) ∙ ap (omerge_ins (omerge_takes u k m).order) (sym kept.places) in record {
+      ap (λ o. omerge_ins o u.places) (sym kept.order) ∙ ap (omerge_ins (omerge_takes u k m).order) (sym kept.places) in record {
         some = subst (λ n. 1 ≤ n) (sym kept.places) t.some;
         ins = length-set gots k (at gots k ++ m ∷ []) ∙ t.ins ∙ ins_same;
         lives = kept.lives ∙ t.lives ∙ ins_same;
@@ -188,7 +187,7 @@ module _ (u : OMergeState) (gots puts : List (List Message)) (t : IsTied u gots 
       let none : u.held ≡ [] = ap (λ s. s.held) fresh in
       let live : u.mode ≡ Live = ap (λ s. s.mode) fresh in
       let tied : TiedLive u.order u.places u.due u.live u.end gots (t.put ++ u.held) =
-          subst (λ mode. TiedAt mode u.order u.places u.due u.live u.end gots (t.put ++ u.held)) live t.tied in record {
+      subst (λ mode. TiedAt mode u.order u.places u.due u.live u.end gots (t.put ++ u.held)) live t.tied in record {
         some = t.some;
         ins = t.ins;
         lives = length-none_live (omerge_ins u.order u.places);

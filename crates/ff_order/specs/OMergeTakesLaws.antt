@@ -1,6 +1,6 @@
 -- An ordered merge stays tied to its ports when it takes a message.
 use Rattle.std.specs.Prelude.{if◌then◌else◌, slice_index_or, slice_set}
-use Rattle.std.proofs.Common.{◌≡◌, ◌⊎◌, ℕ, suc, ◌+◌, ◌<◌, ◌≤◌, Bool, true, false, cond, ltb, List, [], ◌∷◌, ◌++◌, length, refl, sym, ap, ◌∙◌, subst, append-nil, arith, inl, inr, lt-ltb, le-ltb}
+use Rattle.std.proofs.Common.{◌≡◌, ◌⊎◌, ℕ, ◌<◌, ◌≤◌, Bool, true, false, ltb, List, [], ◌∷◌, ◌++◌, length, refl, sym, ap, ◌∙◌, subst, append-nil, arith, inl, inr, lt-ltb, le-ltb}
 use Rattle.std.proofs.lemmas.Bool.{cases_Bool, cases_lt}
 use Rattle.std.proofs.lemmas.List.{get_or-replicate, map_push}
 use Rattle.ff_rec.specs.Lines.{Rec}
@@ -8,8 +8,7 @@ use Rattle.ff_rec.specs.Streams.{IsOpen, IsOpenMsg, at, added, carried}
 use Rattle.ff_rec.specs.declared.msg.Msg.TheVariants.{Item, Mark, Pick, Eos as EosMsg, Abort as AbortMsg}
 use Rattle.ff_node.specs.Fits.{gather}
 use Rattle.ff_node.specs.Runs.{Message}
-use Rattle.ff_port.specs.declared.answers.End.{End}
-use Rattle.ff_port.specs.declared.answers.End.TheVariants.{Eos, Abort, Memory}
+use Rattle.ff_port.specs.declared.answers.End.TheVariants.{Eos}
 use Rattle.ff_unit.specs.Closing.{IsLive, any_live}
 use Rattle.ff_unit.specs.FlagLaws.{any_live-at}
 use Rattle.ff_unit.specs.declared.mode.Mode.{Mode}
@@ -58,7 +57,6 @@ closes-tied u gots p h none exact = by (cases_Bool (any_live u.live))
 
 module _ (u : OMergeState) (gots : List (List Message)) (p : List Message)
     (some : 1 ≤ u.places) (ins_are : length gots ≡ omerge_ins u.order u.places) (due_in : u.due < omerge_ins u.order u.places) (none : u.held ≡ []) where
-
   -- it merges
   module _ (live : u.mode ≡ Live) (t : TiedLive u.order u.places u.due u.live u.end gots (p ++ u.held)) where
     live_put : p ≡ carried t.ys

@@ -1,6 +1,6 @@
 -- What ties the ports of an ordered merge to its state, by its mode. All is said of whole ins that go on from what was taken and
 -- hold the groups that their picks want: where a wrong message came, there are none.
-use Rattle.std.specs.Prelude.{◌≡◌, ℕ, suc, ◌%◌, ◌<◌, Bool, true, false, nat_lt, if◌then◌else◌, List, [], ◌∷◌, ◌++◌, length, map}
+use Rattle.std.specs.Prelude.{◌≡◌, ℕ, ◌%◌, ◌<◌, Bool, true, false, nat_lt, if◌then◌else◌, List, [], ◌∷◌, ◌++◌, length, map}
 use Rattle.std.specs.List.{AllByRecursion}
 use Rattle.ff_rec.specs.Lines.{Rec}
 use Rattle.ff_rec.specs.Streams.{at, carried}
@@ -9,7 +9,7 @@ use Rattle.ff_node.specs.Fits.{grouped, gather, picked, HoldGroups, all_marks}
 use Rattle.ff_node.specs.Picks.{turns, turns_from}
 use Rattle.ff_node.specs.Runs.{Message, AllGoOn}
 use Rattle.ff_port.specs.declared.answers.End.{End}
-use Rattle.ff_port.specs.declared.answers.End.TheVariants.{Eos, Abort, Memory}
+use Rattle.ff_port.specs.declared.answers.End.TheVariants.{Eos}
 use Rattle.ff_unit.specs.Closing.{any_live, all_live}
 use Rattle.ff_unit.specs.declared.mode.Mode.{Mode}
 use Rattle.ff_unit.specs.declared.mode.Mode.TheVariants.{Live, Shut, Cut}

@@ -1,16 +1,16 @@
 -- Whose group comes next, of the picks that are left.
-use Rattle.std.proofs.Common.{◌≡◌, ◌≢◌, ◌⊎◌, ℕ, zero, suc, ◌+◌, ◌%◌, ◌<◌, ◌≤◌, cond, ltb, eqb, List, [], ◌∷◌, ◌++◌, length, map, refl, sym, ap, ◌∙◌, subst, append_assoc, append-nil, arith, inl, inr, lt-ltb, le-ltb, eq-eqb, ne_eqb, mod-lt, mod-eq_of_lt}
+use Rattle.std.proofs.Common.{◌≡◌, ◌⊎◌, ℕ, zero, suc, ◌%◌, ◌<◌, ◌≤◌, cond, List, [], ◌∷◌, ◌++◌, map, refl, sym, ap, ◌∙◌, arith, inl, inr, lt-ltb, le-ltb, eq-eqb, ne_eqb, mod-eq_of_lt}
 use Rattle.std.proofs.Math.Nat.{suc-mod, mod_self}
 use Rattle.std.proofs.lemmas.Bool.{cases_eq}
 use Rattle.ff_rec.specs.Streams.{at, added, closed}
-use Rattle.ff_rec.specs.declared.msg.Msg.TheVariants.{Item, Mark, Pick, Eos as EosMsg, Abort as AbortMsg}
+use Rattle.ff_rec.specs.declared.msg.Msg.TheVariants.{Pick, Eos as EosMsg}
 use Rattle.ff_node.specs.Fits.{picked}
 use Rattle.ff_node.specs.Picks.{turns_from}
 use Rattle.ff_node.specs.Runs.{Message}
 use Rattle.ff_unit.specs.Deals.{next_place}
 use Rattle.ff_order.specs.GroupLaws.{picked-here}
 use Rattle.ff_order.specs.OMerges.{next_due}
-use Rattle.ff_order.specs.OMergeTiedLaws.{TurnsLeft, PicksToCome, PicksLeft}
+use Rattle.ff_order.specs.OMergeTiedLaws.{PicksLeft}
 use Rattle.ff_order.specs.PortLaws.{at-others}
 use Rattle.ff_order.specs.declared.order.Order.{Order}
 use Rattle.ff_order.specs.declared.order.Order.TheVariants.{InTurn, ByPick}

@@ -1,10 +1,10 @@
 -- Laws of the ports of a unit with several ins: which of its lists a message joins, and how lists go on.
-use Rattle.std.proofs.Common.{◌≡◌, ◌≢◌, ℕ, zero, suc, ◌+◌, ◌<◌, Bool, true, false, List, [], ◌∷◌, ◌++◌, length, map, refl, sym, ap, ◌∙◌, subst, append_assoc, append-nil, arith, get_or-set_same, get_or-set_other, length-set}
+use Rattle.std.proofs.Common.{◌≡◌, ◌≢◌, ℕ, zero, suc, ◌<◌, Bool, true, false, List, [], ◌∷◌, ◌++◌, length, map, refl, sym, ap, ◌∙◌, append_assoc, append-nil, arith, get_or-set_same, get_or-set_other}
 use Rattle.std.proofs.lemmas.Bool.{false≢true}
 use Rattle.std.proofs.lemmas.List.{append_cancel_left}
 use Rattle.std.specs.Prelude.{slice_set}
 use Rattle.ff_rec.specs.Streams.{IsOpen, IsOpenMsg, at, added, unaborted, closed, GoesOn}
-use Rattle.ff_rec.specs.declared.msg.Msg.TheVariants.{Item, Mark, Pick, Eos as EosMsg, Abort as AbortMsg}
+use Rattle.ff_rec.specs.declared.msg.Msg.TheVariants.{Eos as EosMsg}
 use Rattle.ff_node.specs.Runs.{Message, AllGoOn}
 use Rattle.ff_unit.specs.Closing.{IsLive, any_live}
 use Rattle.ff_unit.specs.MessageLaws.{IsOpen-append, unaborted-append, unaborted-open, unaborted-closed}
@@ -20,11 +20,14 @@ at-others lists k j m h = get_or-set_other lists k j (at lists k ++ m ∷ []) []
 pub AllGoOn-before : (gots ins : List (List Message)) (k : ℕ) (m : Message) → AllGoOn (added gots k m) ins → AllGoOn gots ins
 AllGoOn-before [] ins k m h = h
 AllGoOn-before (g ∷ gots) [] zero m h = h
-AllGoOn-before (g ∷ gots) (ms ∷ ins) zero m h = (record {
-  inner = h.0.inner;
-  more = unaborted (m ∷ []) ++ h.0.more;
-  is = h.0.is ∙ ap (λ l. l ++ h.0.more) (unaborted-append g (m ∷ [])) ∙ append_assoc (unaborted g) (unaborted (m ∷ [])) h.0.more;
-}, h.1)
+AllGoOn-before (g ∷ gots) (ms ∷ ins) zero m h = (
+  record {
+    inner = h.0.inner;
+    more = unaborted (m ∷ []) ++ h.0.more;
+    is = h.0.is ∙ ap (λ l. l ++ h.0.more) (unaborted-append g (m ∷ [])) ∙ append_assoc (unaborted g) (unaborted (m ∷ [])) h.0.more;
+  },
+  h.1,
+)
 AllGoOn-before (g ∷ gots) [] (suc k) m h = h
 AllGoOn-before (g ∷ gots) (ms ∷ ins) (suc k) m h = (h.0, AllGoOn-before gots ins k m h.1)
 
@@ -47,8 +50,8 @@ GoesOn-next g inner ms m inner_open whole are h = (
   h.more,
   append_cancel_left g (closed inner) (m ∷ h.more)
       (sym (append_assoc g inner (EosMsg ∷ [])) ∙ ap closed (sym are) ∙ h.is ∙ ap (λ l. l ++ h.more) (unaborted-append g (m ∷ []))
-          ∙ ap (λ l. (unaborted g ++ l) ++ h.more) whole ∙ ap (λ l. (l ++ m ∷ []) ++ h.more) (unaborted-open g inner_open)
-          ∙ append_assoc g (m ∷ []) h.more),
+      ∙ ap (λ l. (unaborted g ++ l) ++ h.more) whole ∙ ap (λ l. (l ++ m ∷ []) ++ h.more) (unaborted-open g inner_open)
+      ∙ append_assoc g (m ∷ []) h.more),
 )
 
 -- this list was ended by its one Eos

@@ -6,3 +6,6 @@ mod order;
 
 pub use omerge::OMerge;
 pub use order::Order;
+
+#[cfg(test)]
+mod tests;

@@ -1,4 +1,4 @@
-use Rattle.std.proofs.Common.{◌≡◌, ℕ, refl, sym, ap, subst}
+use Rattle.std.proofs.Common.{◌≡◌, ℕ, refl, ap, subst}
 use Rattle.ff_node.specs.Runs.{Took}
 use Rattle.ff_unit.specs.Closing.{IsLive}
 use Rattle.ff_unit.specs.declared.mode.Mode.{Mode}
