@@ -76,6 +76,18 @@ fn ends(alloc: Global, texts: &[&[u8]]) -> Result<Ends, Fail>
     Ok(OwnPorts::new(ins, outs))
 }
 
+// Steps until the unit ends, at most a thousand times.
+fn run<U: Unit, P: Ports<Record>>(unit: &mut U, ports: &mut P) -> Option<End>
+    requires { Ran U.does unit.old (P.gots ports.old) (P.puts ports.old) }
+{
+    for _ in 0..1000 {
+        if let Step::Ended(end) = unit.step(ports) {
+            return Some(end);
+        }
+    }
+    None
+}
+
 // What is inside a queue.
 fn inside(alloc: Global, q: &mut PlainQueue<Record>) -> Result<String, Fail> {
     let mut text = String::new(alloc);
@@ -105,13 +117,7 @@ fn merges(
 {
     let mut merge = merge;
     let mut ports = ends(alloc, texts)?;
-    let mut ended = None;
-    for _ in 0..1000 {
-        if let Step::Ended(end) = merge.step(&mut ports) {
-            ended = Some(end);
-        }
-    }
-    assert_eq!(rt; ended, Some(end));
+    assert_eq!(rt; run(&mut merge, &mut ports), Some(end));
     let (ins, mut outs) = ports.into_ends();
     assert!(rt; ins.iter().all(|q| q.is_empty()));
     for out in &mut outs {
@@ -123,32 +129,88 @@ fn merges(
 #[test]
 fn one_in(rt: HostRuntime) -> Result<(), Fail> {
     let alloc = rt.alloc();
-    merges(&rt, alloc, OMerge::in_turn(1), &[b"ab||c|"], "abc.", End::Eos)?;
-    merges(&rt, alloc, OMerge::by_pick(1), &[b"ab||c|", b"000"], "abc.", End::Eos)
+    merges(
+        &rt,
+        alloc,
+        OMerge::in_turn(1),
+        &[b"ab||c|"],
+        "abc.",
+        End::Eos,
+    )?;
+    merges(
+        &rt,
+        alloc,
+        OMerge::by_pick(1),
+        &[b"ab||c|", b"000"],
+        "abc.",
+        End::Eos,
+    )
 }
 
 #[test]
 fn groups_that_are_empty_or_long(rt: HostRuntime) -> Result<(), Fail> {
     let alloc = rt.alloc();
-    merges(&rt, alloc, OMerge::in_turn(2), &[b"ab||", b"|cde|"], "abcde.", End::Eos)?;
-    merges(&rt, alloc, OMerge::by_pick(2), &[b"a||", b"bcd|e|", b"10010"], "bcdae.", End::Eos)
+    merges(
+        &rt,
+        alloc,
+        OMerge::in_turn(2),
+        &[b"ab||", b"|cde|"],
+        "abcde.",
+        End::Eos,
+    )?;
+    merges(
+        &rt,
+        alloc,
+        OMerge::by_pick(2),
+        &[b"a||", b"bcd|e|", b"10010"],
+        "bcdae.",
+        End::Eos,
+    )
 }
 
 #[test]
 fn a_group_that_is_cut_off(rt: HostRuntime) -> Result<(), Fail> {
     let alloc = rt.alloc();
-    merges(&rt, alloc, OMerge::in_turn(2), &[b"a|b!", b"c|d|"], "acb!", End::Abort)?;
-    merges(&rt, alloc, OMerge::by_pick(2), &[b"a|b!", b"c|d|", b"010"], "acb!", End::Abort)
+    merges(
+        &rt,
+        alloc,
+        OMerge::in_turn(2),
+        &[b"a|b!", b"c|d|"],
+        "acb!",
+        End::Abort,
+    )?;
+    merges(
+        &rt,
+        alloc,
+        OMerge::by_pick(2),
+        &[b"a|b!", b"c|d|", b"010"],
+        "acb!",
+        End::Abort,
+    )
 }
 
 #[test]
 fn a_pick_that_names_no_in(rt: HostRuntime) -> Result<(), Fail> {
-    merges(&rt, rt.alloc(), OMerge::by_pick(2), &[b"a|", b"b|", b"0271"], "ab.", End::Eos)
+    merges(
+        &rt,
+        rt.alloc(),
+        OMerge::by_pick(2),
+        &[b"a|", b"b|", b"0271"],
+        "ab.",
+        End::Eos,
+    )
 }
 
 #[test]
 fn ins_behind_the_last_group_are_read(rt: HostRuntime) -> Result<(), Fail> {
-    merges(&rt, rt.alloc(), OMerge::in_turn(3), &[b"a|", b"", b"b|c|"], "a.", End::Eos)
+    merges(
+        &rt,
+        rt.alloc(),
+        OMerge::in_turn(3),
+        &[b"a|", b"", b"b|c|"],
+        "a.",
+        End::Eos,
+    )
 }
 
 #[test]
@@ -156,7 +218,14 @@ fn sixty_four_ins(rt: HostRuntime) -> Result<(), Fail> {
     let mut texts: [&[u8]; 64] = [b"|"; 64];
     texts[0] = b"a|c|";
     texts[63] = b"b|";
-    merges(&rt, rt.alloc(), OMerge::in_turn(64), &texts, "abc.", End::Eos)
+    merges(
+        &rt,
+        rt.alloc(),
+        OMerge::in_turn(64),
+        &texts,
+        "abc.",
+        End::Eos,
+    )
 }
 
 #[test]
