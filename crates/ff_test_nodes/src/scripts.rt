@@ -7,8 +7,8 @@ use ff_port::{Inbox, Outbox, PlainQueue, Put};
 use ff_rec::{Field, FieldFault, Msg, NoMemory, Record};
 use std::alloc::{AllocError, Global};
 
-// How many messages a queue holds.
-const ROOM: usize = 512;
+/// How many messages a queue holds.
+pub(crate) const ROOM: usize = 512;
 
 /// A queue that holds the messages of a script, in which a letter stands for the record of that letter, `|` for a Mark, a digit for a
 /// Pick, and at the end `.` for Eos or `!` for Abort.
