@@ -44,8 +44,10 @@ pub mod DealKindLaws
 pub mod DealTellingLaws
 pub mod DealGivesLaws
 pub mod DealCutLaws
+pub mod DealDealtLaws
 pub mod DealTakesLaws
 pub mod DealOpenedLaws
+pub mod DealDoneLaws
 pub mod DealKeptLaws
 pub mod DealReadyLaws
 pub mod DealBeginsLaws
