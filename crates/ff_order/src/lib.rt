@@ -1,6 +1,8 @@
 //! The units of an ordered farm: what deals records out in groups, and what brings the groups back into the order of the records.
 #![tactic(auto)]
 
+mod odeal;
 mod order;
 
+pub use odeal::ODeal;
 pub use order::Order;
