@@ -6,10 +6,10 @@ use Rattle.ff_rec.specs.declared.msg.Msg.TheVariants.{Abort as AbortMsg}
 use Rattle.ff_node.specs.Runs.{Message, Told, Leads}
 use Rattle.ff_port.specs.declared.answers.End.TheVariants.{Abort}
 use Rattle.ff_unit.specs.Closing.{decided}
-use Rattle.ff_unit.specs.DealPairLaws.{Pair}
-use Rattle.ff_unit.specs.DealTiedLaws.{TiedAt, IsTied}
 use Rattle.ff_unit.specs.Deals.{DealState, DealStep, DealGives, aborted_deal, deal_outs, on_outs, opening_deal}
 use Rattle.ff_unit.specs.Units.{HasAbort, TookAbort, aborts, told_acts}
+use Rattle.ff_unit.specs.DealPairLaws.{Pair}
+use Rattle.ff_unit.specs.DealTiedLaws.{TiedAt, IsTied}
 
 -- it was told to, or took one
 pub TookAbort-deal : (u : DealState) (gots puts : List (List Message)) → IsTied u gots puts → decided u.live u.end ≡ Some Abort → (u.told ≡ true) ⊎ TookAbort gots

@@ -1,49 +1,38 @@
--- What a run of a deal has put begins what it sends for all of the in, and is all of it where the deal ended by Eos.
-use Rattle.std.specs.Prelude.{◌≡◌, ◌+◌, ◌<◌, ◌≤◌, ℕ, Bool, true, false, List, [], ◌∷◌, ◌++◌, length, Some}
+-- What a run of a deal has put begins what it sends for all of the in.
+use Rattle.std.specs.Prelude.{◌≡◌, ◌+◌, ◌<◌, ◌≤◌, ℕ, Bool, true, false, List, [], ◌∷◌, ◌++◌, length}
 use Rattle.std.specs.Option.{option_to_list}
-use Rattle.std.proofs.Common.{refl, sym, ap, ◌∙◌, subst, arith, append-nil, append_assoc, length-append}
+use Rattle.std.proofs.Common.{sym, ap, ◌∙◌, subst, arith, append-nil, append_assoc}
 use Rattle.ff_rec.specs.Lines.{Rec}
-use Rattle.ff_rec.specs.Streams.{IsOpen, IsOpenMsg, at, items, unaborted, closed, GoesOn}
-use Rattle.ff_rec.specs.declared.msg.Msg.TheVariants.{Item, Mark, Pick, Eos as EosMsg, Abort as AbortMsg}
-use Rattle.ff_node.specs.Runs.{Message, AllGoOn, HasOuts, BeginsToFit, FitsWhole}
+use Rattle.ff_rec.specs.Streams.{IsOpen, at, items, unaborted, closed, GoesOn}
+use Rattle.ff_rec.specs.declared.msg.Msg.TheVariants.{Eos as EosMsg, Abort as AbortMsg}
+use Rattle.ff_node.specs.Runs.{Message, AllGoOn, HasOuts, BeginsToFit}
 use Rattle.ff_port.specs.declared.answers.End.{End}
 use Rattle.ff_port.specs.declared.answers.End.TheVariants.{Eos, Abort, Memory}
-use Rattle.ff_unit.specs.Closing.{decided}
-use Rattle.ff_unit.specs.DealFitsLaws.{outs_of, FitsDeal-sent}
-use Rattle.ff_unit.specs.DealPairLaws.{Pair, IsInner, AreInner, AllByRecursion-front, on, on-append, IsOpen-on, AllGoOn-rows, rows-closed}
-use Rattle.ff_unit.specs.DealPickLaws.{IsPicked, IsPicked-some, IsPicked-append, some_picks, sent, sent-append, AreInner-sent}
-use Rattle.ff_unit.specs.DealTellingLaws.{on-telling}
-use Rattle.ff_unit.specs.DealTiedLaws.{TiedLive, TiedShut, TiedCut, TiedAt, IsTied}
 use Rattle.ff_unit.specs.Deals.{DealState, FitsDeal, deal_outs}
 use Rattle.ff_unit.specs.MessageLaws.{items-append, unaborted-append, unaborted-open, unaborted-closed, unaborted-cut}
-
-items-unaborted : (g : List Message) → items (unaborted g) ≡ items g
-items-unaborted [] = refl
-items-unaborted (Item x ∷ g) = ap (λ l. x ∷ l) (items-unaborted g)
-items-unaborted (Mark ∷ g) = items-unaborted g
-items-unaborted (Pick w ∷ g) = items-unaborted g
-items-unaborted (EosMsg ∷ g) = items-unaborted g
-items-unaborted (AbortMsg ∷ g) = items-unaborted g
+use Rattle.ff_unit.specs.CarriedLaws.{items-closed, items-unaborted, closed-behind}
+use Rattle.std.proofs.lemmas.List.{append_cancel_right}
+use Rattle.ff_unit.specs.DealFitsLaws.{outs_of, FitsDeal-sent}
+use Rattle.ff_unit.specs.DealPairLaws.{Pair, IsInner, AreInner, AllByRecursion-front, on, on-append, IsOpen-on}
+use Rattle.ff_unit.specs.DealPickLaws.{IsPicked, IsPicked-some, IsPicked-append, some_picks}
+use Rattle.ff_unit.specs.DealRowLaws.{AllGoOn-rows}
+use Rattle.ff_unit.specs.DealSentLaws.{sent, sent-append, AreInner-sent}
+use Rattle.ff_unit.specs.DealTellingLaws.{on-telling}
+use Rattle.ff_unit.specs.DealTiedLaws.{TiedLive, TiedShut, TiedCut, TiedAt, IsTied}
 
 -- the records of a whole in
 items-goes_on : (g ms : List Message) (goes : GoesOn (unaborted g) ms) → items ms ≡ items g ++ items goes.more
 items-goes_on g ms goes =
-    sym (append-nil (items ms))
-    ∙ sym (items-append ms (EosMsg ∷ []))
+    sym (items-closed ms)
     ∙ ap items goes.is
     ∙ items-append (unaborted g) goes.more
     ∙ ap (λ l. l ++ items goes.more) (items-unaborted g)
 
 -- a whole in that has ended is all of it
 closed-front : (ms ns more : List Message) → IsOpen ms → closed ms ≡ closed ns ++ more → ms ≡ ns
-closed-front [] [] more h e = refl
-closed-front [] (n ∷ ns) more h e = absurd (omega (arith, ap length e, length-append (ns ++ EosMsg ∷ []) more, length-append ns (EosMsg ∷ [])))
-closed-front (m ∷ ms) [] more h e = let whole : m ∷ closed ms ≡ EosMsg ∷ more = e in let is : m ≡ EosMsg = cc in absurd (subst IsOpenMsg is h.0)
-closed-front (m ∷ ms) (n ∷ ns) more h e =
-    let whole : m ∷ closed ms ≡ n ∷ (closed ns ++ more) = e in
-    let first : m ≡ n = cc in
-    let others : closed ms ≡ closed ns ++ more = cc in
-    ap (λ a. a ∷ ms) first ∙ ap (λ l. n ∷ l) (closed-front ms ns more h.1 others)
+closed-front ms ns more h e =
+    append_cancel_right ms ns (EosMsg ∷ [])
+    (e ∙ ap (λ l. closed ns ++ l) (closed-behind ms ns more h e) ∙ append-nil (closed ns))
 
 -- where what was put and is held is a front of all, what was put goes on to it
 GoesOn-front : (n j : ℕ) (all front rest : List Pair) (t h : List Message) → AreInner n all → all ≡ front ++ rest → unaborted (t ++ h) ≡ on j front → GoesOn (unaborted t) (on j all)
@@ -145,30 +134,3 @@ BeginsToFit-deal u gots puts t = λ ins goes. outs ins (subst (λ l. AllGoOn l i
           fits = FitsDeal-sent u.way u.places by.picks ms by.picked;
         }
     outs (ms ∷ next ∷ mss) goes = absurd goes.1
-
--- a deal that has ended by Eos fits what it took and put
-whole-shut : (u : DealState) (gots puts : List (List Message)) (t : IsTied u gots puts) → u.held ≡ [] → TiedShut u t.got t.given → FitsWhole (FitsDeal u.way u.places) gots puts
-whole-shut u gots puts t none s =
-    let number = deal_outs u.way u.places in
-    let all = sent u.way u.places s.picks (items s.ms) in
-    record {
-      ins = s.ms ∷ [];
-      outs = outs_of u.way u.places s.picks (items s.ms);
-      gots_are = t.gots_are ∙ ap (λ l. l ∷ []) s.is;
-      puts_are = rows-closed (λ j. on j all) 0 number puts t.puts_are.outs (λ j below.
-          let same : j ≡ 0 + j = omega arith in
-          t.puts_are.each j below
-          ∙ sym (append-nil (on j t.given))
-          ∙ ap (λ h. on j t.given ++ on j h) (sym none)
-          ∙ on-telling number EosMsg all t.given u.held j below s.telling
-          ∙ ap (λ i. closed (on i all)) same);
-      fits = FitsDeal-sent u.way u.places s.picks s.ms s.picked;
-    }
-
-pub FitsWhole-deal : (u : DealState) (gots puts : List (List Message)) → IsTied u gots puts → u.done ≡ true → decided u.live u.end ≡ Some Eos
-    → FitsWhole (FitsDeal u.way u.places) gots puts
-FitsWhole-deal u gots puts t done fin =
-    let rests = t.done done in
-    let is : Some u.end ≡ Some Eos = sym (ap (λ l. decided l u.end) rests.2) ∙ fin in
-    let eos : u.end ≡ Eos = cc in
-    whole-shut u gots puts t rests.1 (subst (λ e. TiedAt false e u t.got t.given) eos (subst (λ l. TiedAt l u.end u t.got t.given) rests.2 t.tied))

@@ -8,11 +8,14 @@ use Rattle.ff_rec.specs.declared.msg.Msg.TheVariants.{Item, Mark, Pick}
 use Rattle.ff_node.specs.Fits.{IsDealt, IsMarkedDeal, marked}
 use Rattle.ff_node.specs.Picks.{share, turns, by_key}
 use Rattle.ff_node.specs.Runs.{Message}
-use Rattle.ff_unit.specs.DealPairLaws.{on, on-own, on-other, rows, length-rows, at-rows_all}
-use Rattle.ff_unit.specs.DealPickLaws.{IsPicked, sent}
 use Rattle.ff_unit.specs.Deals.{behind, deal_outs, FitsDeal}
 use Rattle.ff_unit.specs.declared.dealing.Dealing.{Dealing}
 use Rattle.ff_unit.specs.declared.dealing.Dealing.TheVariants.{InTurn, OnDemand, ByKey, GroupsInTurn, GroupsOnDemand}
+use Rattle.ff_unit.specs.CarriedLaws.{items-carried}
+use Rattle.ff_unit.specs.DealPairLaws.{on, on-own, on-other}
+use Rattle.ff_unit.specs.DealPickLaws.{IsPicked}
+use Rattle.ff_unit.specs.DealRowLaws.{rows, length-rows, at-rows_all}
+use Rattle.ff_unit.specs.DealSentLaws.{sent}
 
 -- where nothing follows a record, an out is given its share
 on-sent : (way : Dealing) (n : ℕ) → ((w : ℕ) → behind way n w ≡ []) → (j : ℕ) (p : List ℕ) (xs : List Rec) → on j (sent way n p xs) ≡ carried (share p xs j)
@@ -63,10 +66,6 @@ on-sent_last n (w ∷ p) (x ∷ xs) number h =
     ∙ on-other w n Mark ((n, Pick w) ∷ rest) other
     ∙ on-own n n (Pick w) rest refl
     ∙ ap (λ l. Pick w ∷ l) (on-sent_last n p xs (omega (arith, number)) h.1)
-
-items-carried : (xs : List Rec) → items (carried xs) ≡ xs
-items-carried [] = refl
-items-carried (x ∷ xs) = ap (λ l. x ∷ l) (items-carried xs)
 
 -- the whole lists of all outs
 abbrev pub outs_of : Dealing → ℕ → List ℕ → List Rec → List (List Message)

@@ -10,13 +10,15 @@ use Rattle.ff_rec.specs.declared.msg.Msg.TheVariants.{Item, Eos as EosMsg, Abort
 use Rattle.ff_node.specs.Runs.{Message}
 use Rattle.ff_port.specs.declared.answers.End.{End}
 use Rattle.ff_port.specs.declared.answers.End.TheVariants.{Eos, Abort, Memory}
-use Rattle.ff_unit.specs.DealPairLaws.{Pair, IsInner, AreInner, AllByRecursion-back}
-use Rattle.ff_unit.specs.DealPickLaws.{IsOnDemand, IsPlace, IsTurn, IsPicked-push, sent, sent-push, place-out, AreInner-sent}
-use Rattle.ff_unit.specs.DealTellingLaws.{IsTelling-next}
-use Rattle.ff_unit.specs.DealTiedLaws.{TiedLive, TiedShut, TiedCut, TiedAt}
 use Rattle.ff_unit.specs.Deals.{DealState, behind, deal_outs}
 use Rattle.ff_unit.specs.declared.dealing.Dealing.{Dealing}
 use Rattle.ff_unit.specs.declared.dealing.Dealing.TheVariants.{InTurn, OnDemand, ByKey, GroupsInTurn, GroupsOnDemand}
+use Rattle.ff_unit.specs.DealPairLaws.{Pair, IsInner, AreInner, AllByRecursion-back}
+use Rattle.ff_unit.specs.DealPickLaws.{IsOnDemand, IsPlace, IsPicked-push}
+use Rattle.ff_unit.specs.DealSentLaws.{sent, sent-push, place-out, AreInner-sent}
+use Rattle.ff_unit.specs.DealTellingLaws.{IsTelling-next}
+use Rattle.ff_unit.specs.DealTiedLaws.{TiedLive, TiedShut, TiedCut, TiedAt}
+use Rattle.ff_unit.specs.DealTurnLaws.{IsTurn}
 
 -- on demand a record may go to any place
 IsPlace-demand : (way : Dealing) (n k w : ℕ) (x : Rec) → IsOnDemand way → IsPlace way n k w x

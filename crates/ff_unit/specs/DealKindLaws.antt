@@ -6,11 +6,11 @@ use Rattle.ff_rec.specs.declared.msg.Msg.TheVariants.{Item, Mark, Pick, Eos as E
 use Rattle.ff_node.specs.Runs.{Message, Act, Took, Gave, Refused, Idle, Told, Handed}
 use Rattle.ff_port.specs.declared.answers.End.{End}
 use Rattle.ff_port.specs.declared.answers.End.TheVariants.{Eos, Abort, Memory}
-use Rattle.ff_unit.specs.DealPickLaws.{next_place-lt}
 use Rattle.ff_unit.specs.Deals.{DealState, DealStep, DealGives, opened_deal, opening_deal, deal_takes, deals, deals_one}
 use Rattle.ff_unit.specs.Units.{taken_by, told_by}
 use Rattle.ff_unit.specs.declared.dealing.Dealing.{Dealing}
 use Rattle.ff_unit.specs.declared.dealing.Dealing.TheVariants.{InTurn, OnDemand, ByKey, GroupsInTurn, GroupsOnDemand}
+use Rattle.ff_unit.specs.DealTurnLaws.{next_place-lt}
 
 -- what no message that is taken changes
 pub record IsSameDeal (u v : DealState) : Type 0 where

@@ -4,14 +4,15 @@ use Rattle.std.proofs.Common.{refl, sym, subst}
 use Rattle.std.proofs.lemmas.Bool.{false≢true}
 use Rattle.ff_node.specs.Runs.{Message}
 use Rattle.ff_unit.specs.Closing.{decided}
+use Rattle.ff_unit.specs.Deals.{DealState, deal_does}
+use Rattle.ff_unit.specs.Units.{IsUnit, Ran}
 use Rattle.ff_unit.specs.DealAbortLaws.{TookAbort-deal, Leads-aborted_deal}
-use Rattle.ff_unit.specs.DealBeginsLaws.{BeginsToFit-deal, FitsWhole-deal}
+use Rattle.ff_unit.specs.DealBeginsLaws.{BeginsToFit-deal}
 use Rattle.ff_unit.specs.DealKeptLaws.{HasRun-tied_deal}
 use Rattle.ff_unit.specs.DealKindLaws.{opening_deal-step, taken_deal-step, told_deal-step}
 use Rattle.ff_unit.specs.DealReadyLaws.{DealReady-tied}
 use Rattle.ff_unit.specs.DealTiedLaws.{IsTied}
-use Rattle.ff_unit.specs.Deals.{DealState, deal_does}
-use Rattle.ff_unit.specs.Units.{IsUnit, Ran}
+use Rattle.ff_unit.specs.DealWholeLaws.{FitsWhole-deal}
 
 -- a run of a deal
 Ran-tied : (u : DealState) (gots puts : List (List Message)) → Ran deal_does u gots puts → IsTied u gots puts

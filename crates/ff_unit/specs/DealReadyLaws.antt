@@ -7,12 +7,12 @@ use Rattle.ff_rec.specs.declared.msg.Msg.TheVariants.{Eos as EosMsg, Abort as Ab
 use Rattle.ff_node.specs.Runs.{Message}
 use Rattle.ff_port.specs.declared.answers.End.{End}
 use Rattle.ff_port.specs.declared.answers.End.TheVariants.{Eos, Abort, Memory}
+use Rattle.ff_unit.specs.Deals.{DealState, DealReady, AreOpenOuts, deal_outs, on_outs}
 use Rattle.ff_unit.specs.DealGivesLaws.{AreInner-held}
 use Rattle.ff_unit.specs.DealPairLaws.{Pair, IsInner, AreInner, AllByRecursion-front, AllByRecursion-back, IsOpen-on}
-use Rattle.ff_unit.specs.DealPickLaws.{sent, place-out, AreInner-sent}
+use Rattle.ff_unit.specs.DealSentLaws.{sent, place-out, AreInner-sent}
 use Rattle.ff_unit.specs.DealTellingLaws.{on-untold}
 use Rattle.ff_unit.specs.DealTiedLaws.{IsTelling, TiedLive, TiedAt, IsTied}
-use Rattle.ff_unit.specs.Deals.{DealState, DealReady, AreOpenOuts, deal_outs, on_outs}
 
 -- what is held where each out is open
 AreOpenOuts-inner : (n : ℕ) (puts : List (List Message)) (held : List Pair) → length puts ≡ n → ((j : ℕ) → j < n → IsOpen (at puts j)) → AreInner n held → AreOpenOuts puts held

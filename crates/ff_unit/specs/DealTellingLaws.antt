@@ -3,9 +3,9 @@ use Rattle.std.specs.Prelude.{◌≡◌, ◌+◌, ◌<◌, ◌≤◌, ℕ, zero,
 use Rattle.std.proofs.Common.{refl, sym, ap, ◌∙◌, subst, arith, append-nil, append_assoc}
 use Rattle.ff_rec.specs.Streams.{IsOpenMsg}
 use Rattle.ff_node.specs.Runs.{Message}
+use Rattle.ff_unit.specs.Deals.{on_outs, MayBeRefused}
 use Rattle.ff_unit.specs.DealPairLaws.{Pair, on, on-append, on_outs-append, on-on_outs, on-on_outs-behind}
 use Rattle.ff_unit.specs.DealTiedLaws.{IsTelling}
-use Rattle.ff_unit.specs.Deals.{on_outs, MayBeRefused}
 
 -- nothing was told yet
 pub IsTelling-start : (outs : ℕ) (m : Message) (front : List Pair) → IsTelling outs m front front (on_outs 0 outs m)

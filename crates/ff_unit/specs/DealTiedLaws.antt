@@ -7,10 +7,13 @@ use Rattle.ff_rec.specs.declared.msg.Msg.TheVariants.{Eos as EosMsg, Abort as Ab
 use Rattle.ff_node.specs.Runs.{Message}
 use Rattle.ff_port.specs.declared.answers.End.{End}
 use Rattle.ff_port.specs.declared.answers.End.TheVariants.{Eos, Abort, Memory}
-use Rattle.ff_unit.specs.DealPairLaws.{Pair, ArePut}
-use Rattle.ff_unit.specs.DealPickLaws.{IsOnDemand, IsPicked, IsTurn, sent}
 use Rattle.ff_unit.specs.Deals.{DealState, deal_outs, on_outs}
 use Rattle.ff_unit.specs.Units.{HasAbort}
+use Rattle.ff_unit.specs.DealPairLaws.{Pair}
+use Rattle.ff_unit.specs.DealPickLaws.{IsOnDemand, IsPicked}
+use Rattle.ff_unit.specs.DealRowLaws.{ArePut}
+use Rattle.ff_unit.specs.DealSentLaws.{sent}
+use Rattle.ff_unit.specs.DealTurnLaws.{IsTurn}
 
 -- `m` is told on all outs behind `front`: on the first of them it was put, and for the others it is held
 pub record IsTelling (outs : ℕ) (m : Message) (front ps held : List Pair) : Type 0 where
