@@ -1,6 +1,6 @@
 -- Where nothing is known, nothing is known after a take or a put either.
 use Rattle.std.proofs.Common.{◌≡◌, ℕ, zero, suc, ◌+◌, ◌<◌, ◌≤◌, List, [], ◌∷◌, ◌++◌, length, get_or, set, refl, ap, sym, ◌∙◌, subst, arith}
-use Rattle.std.specs.Prelude.{slice_index, slice_set, Bool, Option, None, Some}
+use Rattle.std.specs.Prelude.{slice_index, slice_set, Bool, true, Option, None, Some}
 use Rattle.ff_rec.specs.declared.msg.Msg.{Msg}
 use Rattle.ff_port.specs.Ends.{added, at, OthersStay, TakesAt, PutsAt}
 use Rattle.ff_port.specs.declared.answers.Put.{Put as PutAnswer}
@@ -42,8 +42,8 @@ TakesAt-nothing k gots gots' knowns knowns' None takes = (takes.0, nothing gots 
 TakesAt-nothing k gots gots' knowns knowns' (Some m) takes = takes
 
 pub PutsAt-nothing : {T : Type 0} (grows : Bool) (k : ℕ) (puts puts' : List (List (Msg T))) (rooms rooms' : List ℕ) (m : Msg T) (answer : PutAnswer T)
-    → PutsAt grows k puts rooms m answer puts' rooms' → PutsAt grows k puts (nothing_at puts) m answer puts' (nothing_at puts')
+    → PutsAt grows k puts rooms m answer puts' rooms' → PutsAt true k puts (nothing_at puts) m answer puts' (nothing_at puts')
 PutsAt-nothing grows k puts puts' rooms rooms' m Done h =
     (h.0, let none : slice_index (nothing_at puts) k ≡ 0 = nothing puts k in omega (arith, none))
 PutsAt-nothing grows k puts puts' rooms rooms' m (Full back) h = (h.0, h.1, nothing puts k, nothing puts' k)
-PutsAt-nothing grows k puts puts' rooms rooms' m (NoMemory back) h = h
+PutsAt-nothing grows k puts puts' rooms rooms' m (NoMemory back) h = (h.0, h.1, refl, h.3)

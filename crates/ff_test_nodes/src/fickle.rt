@@ -1,5 +1,5 @@
 // Ports that may find nothing, and no room, at any time.
-ghost use Rattle.std.specs.Prelude.{◌≡◌, ◌<◌, length};
+ghost use Rattle.std.specs.Prelude.{◌≡◌, ◌<◌, true, length};
 ghost use Rattle.ff_rec.specs.Streams.{IsOpen};
 ghost use Rattle.ff_port.specs.Ends.{at, OthersStay, PutsAt};
 ghost use Rattle.ff_test_nodes.specs.Fickle.{nothing_at};
@@ -8,12 +8,14 @@ use ff_port::{Ports, Put};
 use ff_rec::{Msg, Record};
 
 /// Ports at which nothing is known to be there and no room is known: at random a try finds nothing, or no room. So a unit is
-/// run as between threads whose order is open.
+/// run as between threads whose order is open. They may be told to want memory, too.
 #[derive(Drop)]
 pub struct Fickle<P> {
     ports: P,
     // The random number behind the last try.
     seed: u32,
+    // For how many puts memory is there.
+    memory: u32,
 }
 
 impl<P: Ports<Record>> Fickle<P> {
@@ -21,7 +23,18 @@ impl<P: Ports<Record>> Fickle<P> {
     pub fn new(ports: P, seed: u32) -> Fickle<P>
         ensures { result.ports ≡ ports }
     {
-        Fickle { ports, seed }
+        Fickle {
+            ports,
+            seed,
+            memory: u32::MAX,
+        }
+    }
+
+    /// Memory is there for so many puts; Eos and Abort want none.
+    pub fn set_memory(&mut self, puts: u32)
+        ensures { self.new.ports ≡ self.old.ports }
+    {
+        self.memory = puts;
     }
 
     /// The ports themselves.
@@ -44,7 +57,7 @@ impl<P: Ports<Record>> Fickle<P> {
 }
 
 impl<P: Ports<Record>> Ports<Record> for Fickle<P> {
-    ghost use Rattle.std.specs.Prelude.{◌≡◌, ◌<◌, length};
+    ghost use Rattle.std.specs.Prelude.{◌≡◌, ◌<◌, true, length};
     ghost use Rattle.ff_rec.specs.Streams.{IsOpen};
     ghost use Rattle.ff_port.specs.Ends.{at, OthersStay, PutsAt};
     ghost use Rattle.ff_test_nodes.specs.Fickle.{nothing_at, length-nothing_at};
@@ -59,7 +72,7 @@ impl<P: Ports<Record>> Ports<Record> for Fickle<P> {
 
     ghost waiting = { λ p. P.waiting p.ports };
 
-    ghost grows = { P.grows };
+    ghost grows = { true };
 
     ghost Link = { P.Link };
 
@@ -84,7 +97,7 @@ impl<P: Ports<Record>> Ports<Record> for Fickle<P> {
         requires within { k < length (P.puts self.old.ports) }
         requires inner { IsOpen (at (P.puts self.old.ports) k) }
         ensures link { P.link self.new.ports ≡ P.link self.old.ports }
-        ensures puts { PutsAt P.grows k (P.puts self.old.ports) (nothing_at (P.puts self.old.ports)) m result
+        ensures puts { PutsAt true k (P.puts self.old.ports) (nothing_at (P.puts self.old.ports)) m result
             (P.puts self.new.ports) (nothing_at (P.puts self.new.ports)) }
         ensures others { OthersStay k (nothing_at (P.puts self.old.ports))
             (nothing_at (P.puts self.new.ports)) }
@@ -94,6 +107,10 @@ impl<P: Ports<Record>> Ports<Record> for Fickle<P> {
         if self.refuses() {
             return Put::Full(m);
         }
+        if self.memory == 0 && !matches!(m, Msg::Eos | Msg::Abort) {
+            return Put::NoMemory(m);
+        }
+        self.memory = self.memory.saturating_sub(1);
         self.ports.try_put(k, m)
     }
 

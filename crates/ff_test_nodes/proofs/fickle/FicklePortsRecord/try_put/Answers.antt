@@ -1,5 +1,5 @@
 -- A put at ports that tell nothing.
-use Rattle.std.proofs.Common.{◌≡◌, refl, ap, ◌∙◌, subst}
+use Rattle.std.proofs.Common.{◌≡◌, true, refl, ap, ◌∙◌, subst}
 use Rattle.ff_port.specs.Ends.{OthersStay, PutsAt}
 use Rattle.ff_test_nodes.specs.Fickle.{nothing_at}
 use Rattle.ff_test_nodes.proofs.Nothing.{nothing, OthersStay-nothing, PutsAt-nothing, nothing-puts}
@@ -17,7 +17,7 @@ returns-then-refuses-clause-puts g c = (
 pub returns-clause-puts : goal.returns-clause-puts
 returns-clause-puts g c =
     let before = ap g.P.Ports.puts c.refuses.ensures in
-    subst (λ puts. PutsAt g.P.Ports.grows c.args.k puts (nothing_at puts) c.args.m c.try_put.result (g.P.Ports.puts c.try_put.new.self) (nothing_at (g.P.Ports.puts c.try_put.new.self))) before
+    subst (λ puts. PutsAt true c.args.k puts (nothing_at puts) c.args.m c.try_put.result (g.P.Ports.puts c.try_put.new.self) (nothing_at (g.P.Ports.puts c.try_put.new.self))) before
     (PutsAt-nothing g.P.Ports.grows c.args.k (g.P.Ports.puts c.refuses.new.self.ports) (g.P.Ports.puts c.try_put.new.self)
     (g.P.Ports.rooms c.refuses.new.self.ports) (g.P.Ports.rooms c.try_put.new.self) c.args.m c.try_put.result c.try_put.ensures.puts)
 
