@@ -30,5 +30,6 @@ pub mod StageLaws
 pub mod MergeTiedLaws
 pub mod MergeInsLaws
 pub mod MergeKeptLaws
+pub mod MergeRestsLaws
 pub mod MergeFitsLaws
 pub mod MergeLaws
