@@ -7,7 +7,7 @@ ghost use Rattle.ff_order.specs.OMerges.{omerge_does};
 use crate::{ODeal, OMerge};
 use ff_port::{End, Ports, Step};
 use ff_rec::Record;
-use ff_test_nodes::{ports_of, scripts_at};
+use ff_test_ports::{ports_of, scripts_at};
 use ff_unit::Unit;
 use std::alloc::Global;
 use std::process::Abort;

@@ -1,2 +1,1 @@
-pub mod Fickle
 pub mod Silent

@@ -3,4 +3,3 @@ pub mod DealOuts
 pub mod UnitRuns
 pub mod UnitAborts
 pub mod FlagViews
-pub mod EmptyQueues

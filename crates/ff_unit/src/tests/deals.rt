@@ -6,7 +6,7 @@ ghost use Rattle.ff_unit.specs.Units.{Ran};
 use super::{ORDERS, run};
 use crate::{Deal, Dealing};
 use ff_port::End;
-use ff_test_nodes::{ports_of, scripts_at};
+use ff_test_ports::{ports_of, scripts_at};
 use std::alloc::Global;
 use std::process::Abort;
 use std::test::Fail;

@@ -4,7 +4,7 @@ ghost use Rattle.std.specs.Prelude.{◌≤◌, length};
 use super::{ORDERS, run};
 use crate::Merge;
 use ff_port::End;
-use ff_test_nodes::{ports_of, scripts_at};
+use ff_test_ports::{ports_of, scripts_at};
 use std::alloc::Global;
 use std::process::Abort;
 use std::test::Fail;
@@ -78,6 +78,30 @@ fn each_in_ends_at_each_moment(rt: HostRuntime) -> Result<(), Fail> {
                 let right = format!(in rt.alloc(); "{right}{second}")?;
                 merges_two(&rt, rt.alloc(), &left, &right)?;
             }
+        }
+    }
+    Ok(())
+}
+
+// Memory is there for some records: those go on, and then Abort.
+#[test]
+fn memory_runs_out_at_each_record(rt: HostRuntime) -> Result<(), Fail> {
+    for (memory, end) in [
+        (0, End::Memory),
+        (1, End::Memory),
+        (2, End::Memory),
+        (3, End::Memory),
+        (4, End::Eos),
+    ] {
+        for seed in 1..=ORDERS {
+            let mut ports = ports_of(rt.alloc(), &["ab.", "DE."], 1, seed)?;
+            ports.set_memory(memory);
+            let mut merge = Merge::new(2);
+            assert_eq!(rt; run(&mut merge, &mut ports), Some(end), "{memory} {seed}");
+            let out = scripts_at(rt.alloc(), ports)?;
+            assert_eq!(rt; out.len(), memory as usize + 2, "{memory} {seed}: {out}");
+            let last = if end == End::Eos { ". " } else { "! " };
+            assert!(rt; out.ends_with(last), "{memory} {seed}: {out}");
         }
     }
     Ok(())

@@ -3,7 +3,7 @@ use Rattle.std.proofs.Common.{◌≡◌, [], length}
 use Rattle.std.specs.List.{AllByRecursion}
 use Rattle.ff_port.specs.Owned.{AllEmpty}
 use Rattle.ff_port.specs.Queues.{put_of}
-use Rattle.ff_test_nodes.proofs.ends.ports_of.Given as goal
+use Rattle.ff_test_ports.proofs.ends.ports_of.Given as goal
 
 abbrev pub invariant-loop-script : goal.invariant-loop-script
 invariant-loop-script l = AllEmpty (λ q. q.got) l.ins.items × (length l.ins.items ≡ l.script-index)

@@ -2,7 +2,7 @@
 use Rattle.std.proofs.Common.{◌≡◌, []}
 use Rattle.ff_rec.specs.Streams.{IsOpen}
 use Rattle.ff_port.specs.Queues.{put_of}
-use Rattle.ff_test_nodes.proofs.scripts.queue_of.Given as goal
+use Rattle.ff_test_ports.proofs.scripts.queue_of.Given as goal
 
 abbrev pub invariant-loop-letter : goal.invariant-loop-letter
 invariant-loop-letter l = IsOpen (put_of l.queue) × (l.queue.got ≡ [])

@@ -5,7 +5,7 @@ use Rattle.ff_rec.specs.declared.msg.Msg.{Msg}
 use Rattle.ff_port.specs.Ends.{added, at, OthersStay, TakesAt, PutsAt}
 use Rattle.ff_port.specs.declared.answers.Put.{Put as PutAnswer}
 use Rattle.ff_port.specs.declared.answers.Put.TheVariants.{Done, Full, NoMemory}
-use Rattle.ff_test_nodes.specs.Fickle.{nothing_at}
+use Rattle.ff_test_ports.specs.Fickle.{nothing_at}
 
 pub nothing : {A : Type 0} (xs : List A) (k : ℕ) → slice_index (nothing_at xs) k ≡ 0
 nothing [] k = refl

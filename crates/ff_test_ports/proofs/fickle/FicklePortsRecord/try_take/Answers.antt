@@ -1,9 +1,9 @@
 -- A take at ports that tell nothing.
 use Rattle.std.proofs.Common.{◌≡◌, refl, ap, ◌∙◌, subst}
 use Rattle.ff_port.specs.Ends.{OthersStay, TakesAt}
-use Rattle.ff_test_nodes.specs.Fickle.{nothing_at}
-use Rattle.ff_test_nodes.proofs.Nothing.{nothing, OthersStay-nothing, TakesAt-nothing, nothing-takes}
-use Rattle.ff_test_nodes.proofs.fickle.FicklePortsRecord.try_take.Goals as goal
+use Rattle.ff_test_ports.specs.Fickle.{nothing_at}
+use Rattle.ff_test_ports.proofs.Nothing.{nothing, OthersStay-nothing, TakesAt-nothing, nothing-takes}
+use Rattle.ff_test_ports.proofs.fickle.FicklePortsRecord.try_take.Goals as goal
 
 pub returns-then-refuses-clause-takes : goal.returns-then-refuses-clause-takes
 returns-then-refuses-clause-takes g c = (

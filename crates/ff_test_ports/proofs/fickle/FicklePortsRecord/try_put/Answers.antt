@@ -1,9 +1,9 @@
 -- A put at ports that tell nothing.
 use Rattle.std.proofs.Common.{◌≡◌, true, refl, ap, ◌∙◌, subst}
 use Rattle.ff_port.specs.Ends.{OthersStay, PutsAt}
-use Rattle.ff_test_nodes.specs.Fickle.{nothing_at}
-use Rattle.ff_test_nodes.proofs.Nothing.{nothing, OthersStay-nothing, PutsAt-nothing, nothing-puts}
-use Rattle.ff_test_nodes.proofs.fickle.FicklePortsRecord.try_put.Goals as goal
+use Rattle.ff_test_ports.specs.Fickle.{nothing_at}
+use Rattle.ff_test_ports.proofs.Nothing.{nothing, OthersStay-nothing, PutsAt-nothing, nothing-puts}
+use Rattle.ff_test_ports.proofs.fickle.FicklePortsRecord.try_put.Goals as goal
 
 -- what it was handed comes back
 pub returns-then-refuses-clause-puts : goal.returns-then-refuses-clause-puts

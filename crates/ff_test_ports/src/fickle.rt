@@ -2,7 +2,7 @@
 ghost use Rattle.std.specs.Prelude.{◌≡◌, ◌<◌, true, length};
 ghost use Rattle.ff_rec.specs.Streams.{IsOpen};
 ghost use Rattle.ff_port.specs.Ends.{at, OthersStay, PutsAt};
-ghost use Rattle.ff_test_nodes.specs.Fickle.{nothing_at};
+ghost use Rattle.ff_test_ports.specs.Fickle.{nothing_at};
 
 use ff_port::{Ports, Put};
 use ff_rec::{Msg, Record};
@@ -60,7 +60,7 @@ impl<P: Ports<Record>> Ports<Record> for Fickle<P> {
     ghost use Rattle.std.specs.Prelude.{◌≡◌, ◌<◌, true, length};
     ghost use Rattle.ff_rec.specs.Streams.{IsOpen};
     ghost use Rattle.ff_port.specs.Ends.{at, OthersStay, PutsAt};
-    ghost use Rattle.ff_test_nodes.specs.Fickle.{nothing_at, length-nothing_at};
+    ghost use Rattle.ff_test_ports.specs.Fickle.{nothing_at, length-nothing_at};
 
     ghost gots = { λ p. P.gots p.ports };
 

@@ -1,8 +1,8 @@
 -- The lists that were made hold an end for each.
 use Rattle.std.proofs.Common.{◌≡◌, [], length, map, replicate, ap, ◌∙◌, arith}
 use Rattle.ff_port.specs.Queues.{put_of}
-use Rattle.ff_test_nodes.proofs.FreshQueues.{map-nothing}
-use Rattle.ff_test_nodes.proofs.ends.ports_of.Goals as goal
+use Rattle.ff_test_ports.proofs.FreshQueues.{map-nothing}
+use Rattle.ff_test_ports.proofs.ends.ports_of.Goals as goal
 
 pub returns-clause-gots : goal.returns-clause-gots
 returns-clause-gots c =
