@@ -31,6 +31,7 @@ pub mod StageLaws
 pub mod MergeTiedLaws
 pub mod MergeInsLaws
 pub mod MergeKeptLaws
+pub mod MergeRestsLaws
 pub mod MergeFitsLaws
 pub mod MergeLaws
 pub mod DealPairLaws

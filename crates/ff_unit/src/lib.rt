@@ -1,5 +1,5 @@
 //! The units of a network: what each of them is seen as and promises, and those that work on one stream. A stage runs a node
-//! between its in and its out.
+//! between its in and its out. A merge brings what comes at several ins on to one out.
 #![tactic(auto)]
 
 mod aborts;
@@ -24,3 +24,6 @@ pub use mode::Mode;
 pub use stage::Stage;
 pub use takes::take_any;
 pub use unit::Unit;
+
+#[cfg(test)]
+mod tests;
