@@ -36,8 +36,8 @@ fn ended(q: PlainQueue<Record>, m: Msg<Record>) -> Result<PlainQueue<Record>, Fa
     }
 }
 
-// A queue that holds the messages of a text.
-fn queue(alloc: Global, text: &str) -> Result<PlainQueue<Record>, Fail>
+/// A queue that holds the messages of a text.
+pub fn queue(alloc: Global, text: &str) -> Result<PlainQueue<Record>, Fail>
     ensures { IfOk result (λ q. q.got ≡ []) }
 {
     let mut q = PlainQueue::new(alloc, 100)?;
@@ -91,7 +91,7 @@ pub fn write_inside(text: &mut String, q: &mut PlainQueue<Record>) -> Result<(),
         match q.try_take() {
             Some(Msg::Item(r)) => text.push_str(str::from_utf8(r.joined())?)?,
             Some(Msg::Mark) => text.push('|')?,
-            Some(Msg::Pick(_)) => text.push('?')?,
+            Some(Msg::Pick(w)) => write!(text, "{w}")?,
             Some(Msg::Eos) => text.push('.')?,
             Some(Msg::Abort) => text.push('!')?,
             None => {}
