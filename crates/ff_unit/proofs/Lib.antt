@@ -2,3 +2,4 @@ pub mod StageFields
 pub mod UnitRuns
 pub mod UnitAborts
 pub mod FlagViews
+pub mod EmptyQueues

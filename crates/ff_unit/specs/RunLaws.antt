@@ -1,6 +1,6 @@
 -- What every run of a unit keeps.
-use Rattle.std.specs.Prelude.{◌≡◌, ℕ, List, [], ◌∷◌, replicate}
-use Rattle.std.proofs.Common.{sym, subst, refl}
+use Rattle.std.specs.Prelude.{ℕ, List, [], ◌∷◌, replicate}
+use Rattle.std.proofs.Common.{sym, subst}
 use Rattle.ff_node.specs.Runs.{Message, Act, took, gave, took_on, gave_on, Leads, HasRun}
 
 -- a fact on a unit and its ports that holds at the start and that each act keeps

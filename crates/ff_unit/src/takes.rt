@@ -1,6 +1,6 @@
 // Taking from any in that still gives.
-ghost use Rattle.std.specs.Prelude.{◌≡◌, ◌≤◌, length};
-ghost use Rattle.ff_unit.specs.Takes.{TakesAny, TakesBetween};
+ghost use Rattle.std.specs.Prelude.{◌≡◌, ◌<◌, ◌≤◌, length, IfSome};
+ghost use Rattle.ff_unit.specs.Takes.{TakesAny, TakesBetween, PassesDry};
 ghost use Rattle.ff_unit.specs.Units.{known};
 
 use crate::Flags;
@@ -18,6 +18,8 @@ pub fn take_any<P: Ports<Record>>(
         (known (P.knowns ports.old) (P.rooms ports.old) (P.waiting ports.old)) result
         (P.gots ports.new)
         (known (P.knowns ports.new) (P.rooms ports.new) (P.waiting ports.new)) }
+    ensures round { PassesDry next live.now (P.knowns ports.old) result }
+    ensures within { IfSome result (λ taken. taken.0 < 65) }
     ensures puts { P.puts ports.new ≡ P.puts ports.old }
     ensures rooms { P.rooms ports.new ≡ P.rooms ports.old }
     ensures waiting { P.waiting ports.new ≡ P.waiting ports.old }
