@@ -29,3 +29,5 @@ pub mod NetRuns
 pub mod NetBegins
 pub mod NetEnds
 pub mod NetMade
+pub mod Shapes
+pub mod PutsOpen
