@@ -31,3 +31,5 @@ pub mod NetEnds
 pub mod NetMade
 pub mod Shapes
 pub mod PutsOpen
+pub mod UnitFits
+pub mod FreshUnits
