@@ -19,6 +19,8 @@ pub mod Heads
 pub mod UnitsOpened
 pub mod PlanStages
 pub mod StageEnds
+pub mod Ports
+pub mod OneUnit
 pub mod OverBegins
 pub mod OverEnds
 pub mod OverWhole

@@ -8,7 +8,6 @@ pub mod Rejects
 pub mod Seen
 pub mod NetUnits
 pub mod PlanUnits
-pub mod Units
 pub mod OverEdges
 pub mod NetCores
 -- lemmas: nothing to trust
