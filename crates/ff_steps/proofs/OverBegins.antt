@@ -4,10 +4,6 @@ use Rattle.std.specs.List.{AllByRecursion}
 use Rattle.ff_rec.specs.Lines.{Rec}
 use Rattle.ff_rec.specs.Streams.{carried, items, unaborted, GoesOn}
 use Rattle.ff_node.specs.Behaviour.{Behaviour, KeepsKind}
-use Rattle.ff_node.specs.Classes.{ClassLaw}
-use Rattle.ff_node.specs.Comb.{comb_node}
-use Rattle.ff_node.specs.CombClassLaws.{comb_class_law}
-use Rattle.ff_node.specs.CombKindLaws.{comb_keeps_kind}
 use Rattle.ff_node.specs.Runs.{Message}
 use Rattle.ff_net.specs.Forms.{has_wrap}
 use Rattle.ff_net.specs.Good.{Good}
@@ -18,12 +14,7 @@ use Rattle.ff_plan.specs.Laying.{units_of}
 use Rattle.ff_plan.specs.PlanLaws.{BeginsAnswer, CutRuns}
 use Rattle.ff_plan.specs.Rows.{Laid}
 use Rattle.ff_plan.proofs.MeanPlain.{no_wrap_fine}
-use Rattle.ff_order.specs.OMerges.{omerge_does}
-use Rattle.ff_unit.specs.Deals.{deal_does}
-use Rattle.ff_unit.specs.Merges.{merge_does}
-use Rattle.ff_unit.specs.StageLaws.{IsUnit-stage}
 use Rattle.ff_unit.specs.Units.{IsUnit}
-use Rattle.ff_steps.specs.NetUnitLaws.{IsUnit-net}
 use Rattle.ff_steps.specs.NetUnits.{NetState, net_does, opening_net}
 use Rattle.ff_steps.specs.OverEdges.{RanAlong, RanOver}
 use Rattle.ff_steps.specs.PlanUnits.{opened_unit}
@@ -35,29 +26,24 @@ use Rattle.ff_steps.proofs.UnitFits.{BeginsUnit-unit}
 abbrev pub no_logs : {A : Type 0} → List A → List (List Event)
 no_logs ls = map (λ l. []) ls
 
-module _ {N : Type 0} (b : Behaviour N) (kind : KeepsKind b) (law : (o : N) → ClassLaw b o (b.class o)) (deal : IsUnit deal_does) (merge : IsUnit merge_does) (omerge : IsUnit omerge_does) where
-  -- the stages are stages of combs
-  pub net_laws : IsUnit (net_does b)
-  net_laws = IsUnit-net b (IsUnit-stage (comb_node b) (comb_keeps_kind b kind) (comb_class_law b law)) deal merge omerge
+module _ {N : Type 0} (b : Behaviour N) (kind : KeepsKind b) (laws : IsUnit (net_does b)) (keep : Bool) where
+  -- all units begin to fit what they took and put
+  begins-units : (m : ℕ) (got put : ℕ → List Message) (units : List (NetState N)) (ls : List (Laid N)) → AllByRecursion HasShape ls
+      → map (opening_net b) units ≡ map (opened_unit b keep) ls → RanAlong (net_does b) got put (map (λ l. l.row) ls) units
+      → EachUnit (λ l log. BeginsUnit b m l log (map got l.row.ins) (map put l.row.outs)) ls (no_logs ls)
+  begins-units m got put [] [] shapes made ran = tt
+  begins-units m got put (u ∷ units) [] shapes made ran = absurd ran
+  begins-units m got put [] (l ∷ ls) shapes made ran = absurd ran
+  begins-units m got put (u ∷ units) (l ∷ ls) shapes made ran = (
+    BeginsUnit-unit b kind keep u l (head-same made) shapes.0 m (map got l.row.ins) (map put l.row.outs) (laws.begins u (map got l.row.ins) (map put l.row.outs) ran.0),
+    begins-units m got put units ls shapes.1 (tail-same made) ran.1,
+  )
 
-  module _ (keep : Bool) where
-    -- all units begin to fit what they took and put
-    begins-units : (m : ℕ) (got put : ℕ → List Message) (units : List (NetState N)) (ls : List (Laid N)) → AllByRecursion HasShape ls
-        → map (opening_net b) units ≡ map (opened_unit b keep) ls → RanAlong (net_does b) got put (map (λ l. l.row) ls) units
-        → EachUnit (λ l log. BeginsUnit b m l log (map got l.row.ins) (map put l.row.outs)) ls (no_logs ls)
-    begins-units m got put [] [] shapes made ran = tt
-    begins-units m got put (u ∷ units) [] shapes made ran = absurd ran
-    begins-units m got put [] (l ∷ ls) shapes made ran = absurd ran
-    begins-units m got put (u ∷ units) (l ∷ ls) shapes made ran = (
-      BeginsUnit-unit b kind keep u l (head-same made) shapes.0 m (map got l.row.ins) (map put l.row.outs) (net_laws.begins u (map got l.row.ins) (map put l.row.outs) ran.0),
-      begins-units m got put units ls shapes.1 (tail-same made) ran.1,
-    )
-
-    -- at each moment: the records that were put on the last edge are the first of an answer
-    pub BeginsAnswer-over : (m : ℕ) (t : Tree N) → has_wrap t ≡ false → Good b t → CutRuns b m t → (units : List (NetState N)) (got put : ℕ → List Message) → RanOver b keep t units got put
-        → (xs : List Rec) → GoesOn (unaborted (put 0)) (carried xs) → BeginsAnswer b m t xs (items (put 1))
-    BeginsAnswer-over m t free good cut units got put over xs goes =
-        cut got put (no_logs (units_of t)) xs (record {
-          first = over.first;
-          begins = begins-units m got put units (units_of t) (shapes-lay b t free good [] 0 1 2) over.made over.ran;
-        }) goes (no_wrap_fine b m t free xs)
+  -- at each moment: the records that were put on the last edge are the first of an answer
+  pub BeginsAnswer-over : (m : ℕ) (t : Tree N) → has_wrap t ≡ false → Good b t → CutRuns b m t → (units : List (NetState N)) (got put : ℕ → List Message) → RanOver b keep t units got put
+      → (xs : List Rec) → GoesOn (unaborted (put 0)) (carried xs) → BeginsAnswer b m t xs (items (put 1))
+  BeginsAnswer-over m t free good cut units got put over xs goes =
+      cut got put (no_logs (units_of t)) xs (record {
+        first = over.first;
+        begins = begins-units m got put units (units_of t) (shapes-lay b t free good [] 0 1 2) over.made over.ran;
+      }) goes (no_wrap_fine b m t free xs)
