@@ -1,3 +1,4 @@
 pub mod StageFields
 pub mod UnitRuns
 pub mod UnitAborts
+pub mod FlagViews

@@ -7,8 +7,14 @@ pub mod StageUnit
 pub mod Closing
 pub mod Deals
 pub mod Merges
+pub mod Takes
 -- lemmas: nothing to trust
 pub mod MessageLaws
+pub mod RunLaws
+pub mod FlagLaws
+pub mod CarriedLaws
+pub mod ShareLaws
+pub mod TakenLaws
 pub mod AnswerLaws
 pub mod RefusalLaws
 pub mod StageKindLaws
@@ -21,3 +27,8 @@ pub mod StageRefusalLaws
 pub mod StageRejectLaws
 pub mod StageAbortLaws
 pub mod StageLaws
+pub mod MergeTiedLaws
+pub mod MergeInsLaws
+pub mod MergeKeptLaws
+pub mod MergeFitsLaws
+pub mod MergeLaws

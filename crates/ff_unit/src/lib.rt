@@ -3,12 +3,23 @@
 #![tactic(auto)]
 
 mod aborts;
+mod closing;
 mod dealing;
+mod flags;
+mod merge;
 mod mode;
 mod stage;
+mod takes;
 mod unit;
 
+pub use closing::{last_message, spoil};
 pub use dealing::Dealing;
+pub use flags::Flags;
+pub use merge::Merge;
 pub use mode::Mode;
 pub use stage::Stage;
+pub use takes::take_any;
 pub use unit::Unit;
+
+#[cfg(test)]
+mod tests;
