@@ -14,7 +14,7 @@ use Rattle.ff_unit.specs.Merges.{opened_merge}
 use Rattle.ff_unit.specs.Stage.{started}
 use Rattle.ff_unit.specs.Units.{Doing, Ran, RanFrom}
 use Rattle.ff_steps.specs.NetUnits.{NetState, AsStage, AsMerge, net_does, opening_net}
-use Rattle.ff_steps.specs.PlanUnits.{opened_kind}
+use Rattle.ff_steps.specs.PlanUnits.{opened_kind, IsUnrun}
 use Rattle.ff_steps.proofs.Shapes.{IsShaped, IsOneMore}
 
 -- a unit that is what it was before its first step, and has so many ins and outs
@@ -81,3 +81,10 @@ module _ {N : Type 0} (b : Behaviour N) (kind : KeepsKind b) (keep : Bool) where
 
   pub Ran-kind : (is_of : UnitKind) (t : Tree N) (n k : ℕ) → IsShaped is_of n k → Ran (net_does b) (opened_kind b keep is_of t n k) (replicate n []) (replicate k [])
   Ran-kind is_of t n k shape = Ran-fresh (net_does b) n k (opened_kind b keep is_of t n k) (IsFresh-kind is_of t n k shape)
+
+  -- so none of them made a step
+  pub IsUnrun-kind : (is_of : UnitKind) (t : Tree N) (n k : ℕ) → IsShaped is_of n k → IsUnrun (net_does b) (opened_kind b keep is_of t n k)
+  IsUnrun-kind is_of t n k shape =
+      let fresh = IsFresh-kind is_of t n k shape in
+      let u = opened_kind b keep is_of t n k in
+      Ran-fresh (net_does b) ((net_does b).ins u) ((net_does b).outs u) u (record { opened = fresh.opened; made = fresh.made; ins = refl; outs = refl })

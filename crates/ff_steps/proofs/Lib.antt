@@ -35,3 +35,4 @@ pub mod Shapes
 pub mod PutsOpen
 pub mod UnitFits
 pub mod FreshUnits
+pub mod UnitsAlong

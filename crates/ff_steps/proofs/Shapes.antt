@@ -41,16 +41,16 @@ IsShaped Worker n k = ⊥
 abbrev pub HasShape : {N : Type 0} → Laid N → Type 0
 HasShape l = IsShaped l.row.kind (length l.row.ins) (length l.row.outs)
 
-length-range : (e n : ℕ) → length (range e n) ≡ n
+pub length-range : (e n : ℕ) → length (range e n) ≡ n
 length-range e zero = refl
 length-range e (suc n) = ap suc (length-range (suc e) n)
 
-length-stride : (step e n : ℕ) → length (stride step e n) ≡ n
+pub length-stride : (step e n : ℕ) → length (stride step e n) ≡ n
 length-stride step e zero = refl
 length-stride step e (suc n) = ap suc (length-stride step (e + step) n)
 
 -- with an edge for the picks, or without
-length-picked : (s : Sched) (e f n : ℕ) → length (range e n ++ range f (pick_edges s)) ≡ n + pick_edges s
+pub length-picked : (s : Sched) (e f n : ℕ) → length (range e n ++ range f (pick_edges s)) ≡ n + pick_edges s
 length-picked s e f n = length-append (range e n) (range f (pick_edges s)) ∙ ap (λ k. k + length (range f (pick_edges s))) (length-range e n) ∙ ap (λ k. n + k) (length-range f (pick_edges s))
 
 module _ {N : Type 0} where

@@ -8,6 +8,7 @@ pub mod Rejects
 pub mod Seen
 pub mod NetUnits
 pub mod PlanUnits
+pub mod PartViews
 pub mod OverEdges
 pub mod NetCores
 -- lemmas: nothing to trust

@@ -1,13 +1,20 @@
 -- A unit of a network keeps the laws of a unit, as its part does.
 use Rattle.std.proofs.Common.{◌≡◌, ◌⊎◌, true, false, List, [], Some, IsSome, refl, sym, ap, ◌∙◌, subst}
-use Rattle.ff_node.specs.Behaviour.{Behaviour}
+use Rattle.ff_node.specs.Behaviour.{Behaviour, KeepsKind}
+use Rattle.ff_node.specs.Classes.{ClassLaw}
 use Rattle.ff_node.specs.Comb.{Part, comb_node}
+use Rattle.ff_node.specs.CombClassLaws.{comb_class_law}
+use Rattle.ff_node.specs.CombKindLaws.{comb_keeps_kind}
 use Rattle.ff_node.specs.Runs.{Message, Act, Leads, BeginsToFit, FitsWhole}
+use Rattle.ff_order.specs.OMergeLaws.{IsUnit-omerge}
 use Rattle.ff_order.specs.OMerges.{OMergeState, OMergeStep, omerge_does}
 use Rattle.ff_port.specs.declared.answers.End.TheVariants.{Eos, Abort}
+use Rattle.ff_unit.specs.DealLaws.{IsUnit-deal}
 use Rattle.ff_unit.specs.Deals.{DealState, DealStep, deal_does}
+use Rattle.ff_unit.specs.MergeLaws.{IsUnit-merge}
 use Rattle.ff_unit.specs.Merges.{MergeState, MergeStep, merge_does}
 use Rattle.ff_unit.specs.Stage.{StageState}
+use Rattle.ff_unit.specs.StageLaws.{IsUnit-stage}
 use Rattle.ff_unit.specs.StageSteps.{StageStep}
 use Rattle.ff_unit.specs.StageUnit.{stage_does}
 use Rattle.ff_unit.specs.Units.{IsUnit, Ran, HasRejects, TookAbort, taken_by, told_by, told_acts}
@@ -129,3 +136,7 @@ module _ {N : Type 0} (b : Behaviour N) where
       causes = causes;
       aborts_by = aborts-by;
     }
+
+  -- with nodes that keep the laws of nodes
+  pub IsUnit-nodes : KeepsKind b → ((o : N) → ClassLaw b o (b.class o)) → IsUnit (net_does b)
+  IsUnit-nodes kind law = IsUnit-net (IsUnit-stage (comb_node b) (comb_keeps_kind b kind) (comb_class_law b law)) IsUnit-deal IsUnit-merge IsUnit-omerge

@@ -1,5 +1,5 @@
 -- The units of a network's plan before their first steps.
-use Rattle.std.specs.Prelude.{ℕ, zero, suc, ◌-◌, Bool, List, [], ◌∷◌, ◌++◌, map, length}
+use Rattle.std.specs.Prelude.{ℕ, zero, suc, ◌-◌, Bool, List, [], ◌∷◌, ◌++◌, map, length, replicate}
 use Rattle.ff_net.specs.Tree.{Tree, Trees, Leaf, Pipe, Comb, Farm, OFarm, A2a, Wrap, none, more}
 use Rattle.ff_net.specs.declared.net.Route.{Route}
 use Rattle.ff_net.specs.declared.net.Route.TheVariants.{Rr, Od, By}
@@ -18,6 +18,7 @@ use Rattle.ff_plan.specs.Rows.{Laid}
 use Rattle.ff_unit.specs.Deals.{opened_deal}
 use Rattle.ff_unit.specs.Merges.{opened_merge}
 use Rattle.ff_unit.specs.Stage.{opened_stage}
+use Rattle.ff_unit.specs.Units.{Doing, Ran}
 use Rattle.ff_unit.specs.declared.dealing.Dealing.{Dealing}
 use Rattle.ff_unit.specs.declared.dealing.Dealing.TheVariants.{InTurn, OnDemand, ByKey, GroupsInTurn, GroupsOnDemand}
 use Rattle.ff_steps.specs.NetUnits.{NetState, AsStage, AsDeal, AsMerge, AsOMerge}
@@ -48,6 +49,10 @@ opened_unit b keep l = opened_kind b keep l.row.kind l.net (length l.row.ins) (l
 -- all of them
 abbrev pub opened_units : {N : Type 0} → Behaviour N → Bool → Tree N → List (NetState N)
 opened_units b keep t = map (opened_unit b keep) (units_of t)
+
+-- a unit made no step: it took nothing at its ins and put nothing at its outs
+abbrev pub IsUnrun : {U : Type 0} → Doing U → U → Type 0
+IsUnrun d u = Ran d u (replicate (d.ins u) []) (replicate (d.outs u) [])
 
 -- how the deals and merges of farms choose, and the deals inside an all-to-all
 abbrev pub dealing : Sched → Dealing
@@ -85,11 +90,10 @@ abbrev mutual
   units_in b keep (Farm n s w) = between (AsDeal (opened_deal (dealing s) n)) (times n (units_in b keep w)) (AsMerge (opened_merge n))
   units_in b keep (OFarm n s w) = between (AsDeal (opened_deal (group_dealing s) n)) (times n (units_in b keep w)) (AsOMerge (opened_omerge (group_order s) n))
   units_in b keep (A2a n l r m t) =
-      between (AsDeal (opened_deal InTurn n))
-      (times n (units_in b keep l)
+      AsDeal (opened_deal InTurn n)
+      ∷ (times n (units_in b keep l)
       ++ (times n (AsDeal (opened_deal (route_dealing r) m) ∷ [])
-      ++ (times m (AsMerge (opened_merge n) ∷ []) ++ times m (units_in b keep t))))
-      (AsMerge (opened_merge m))
+      ++ (times m (AsMerge (opened_merge n) ∷ []) ++ (times m (units_in b keep t) ++ AsMerge (opened_merge m) ∷ []))))
   units_in b keep (Wrap n w p) = []
 
   pub units_through : {N : Type 0} → Behaviour N → Bool → Trees N → List (NetState N)
