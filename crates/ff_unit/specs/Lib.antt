@@ -6,6 +6,7 @@ pub mod StageParts
 pub mod StageUnit
 pub mod Closing
 pub mod Deals
+pub mod DealParts
 pub mod Merges
 pub mod Takes
 -- lemmas: nothing to trust
@@ -32,3 +33,22 @@ pub mod MergeInsLaws
 pub mod MergeKeptLaws
 pub mod MergeFitsLaws
 pub mod MergeLaws
+pub mod DealPairLaws
+pub mod DealRowLaws
+pub mod DealPickLaws
+pub mod DealTurnLaws
+pub mod DealSentLaws
+pub mod DealFitsLaws
+pub mod DealTiedLaws
+pub mod DealKindLaws
+pub mod DealTellingLaws
+pub mod DealGivesLaws
+pub mod DealCutLaws
+pub mod DealTakesLaws
+pub mod DealOpenedLaws
+pub mod DealKeptLaws
+pub mod DealReadyLaws
+pub mod DealBeginsLaws
+pub mod DealWholeLaws
+pub mod DealAbortLaws
+pub mod DealLaws

@@ -4,8 +4,10 @@
 
 mod aborts;
 mod closing;
+mod deal;
 mod dealing;
 mod flags;
+mod keys;
 mod merge;
 mod mode;
 mod stage;
@@ -13,8 +15,10 @@ mod takes;
 mod unit;
 
 pub use closing::{last_message, spoil};
+pub use deal::Deal;
 pub use dealing::Dealing;
 pub use flags::Flags;
+pub use keys::key_place;
 pub use merge::Merge;
 pub use mode::Mode;
 pub use stage::Stage;
