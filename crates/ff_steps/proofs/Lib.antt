@@ -36,3 +36,4 @@ pub mod PutsOpen
 pub mod UnitFits
 pub mod FreshUnits
 pub mod UnitsAlong
+pub mod Times

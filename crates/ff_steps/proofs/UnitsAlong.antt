@@ -24,11 +24,6 @@ use Rattle.ff_steps.specs.NetUnits.{NetState, AsDeal, AsMerge, AsOMerge}
 use Rattle.ff_steps.specs.PlanUnits.{opened_unit, opened_units, units_in, units_through, stage_unit, times, between, dealing, group_dealing, group_order, route_dealing}
 use Rattle.ff_steps.proofs.Shapes.{length-range, length-stride, length-picked}
 
--- one time more
-pub times-more : {A : Type 0} (n : ℕ) (xs : List A) → times n xs ++ xs ≡ xs ++ times n xs
-times-more zero xs = sym (append-nil xs)
-times-more (suc n) xs = append_assoc xs (times n xs) xs ∙ ap (λ ys. xs ++ ys) (times-more n xs)
-
 less-one : (n : ℕ) → (n + 1) - 1 ≡ n
 less-one n = omega arith
 

@@ -1,7 +1,7 @@
 // The units of the forms that have copies of a network.
 ghost use Rattle.std.specs.Prelude.{◌≡◌, ◌≤◌, ◌++◌, [], ◌∷◌, OnOk};
 ghost use Rattle.ff_net.specs.Good.{Good};
-ghost use Rattle.ff_net.specs.Tree.{tree_of, Farm, OFarm, A2a};
+ghost use Rattle.ff_net.specs.Tree.{tree_of, Farm, OFarm};
 ghost use Rattle.ff_steps.specs.NetUnits.{AsDeal, AsMerge};
 ghost use Rattle.ff_steps.specs.PlanUnits.{units_in, times, route_dealing};
 ghost use Rattle.ff_unit.specs.Deals.{opened_deal};
@@ -13,7 +13,7 @@ use crate::units::add_units;
 use ff_net::{Net, Route, Sched};
 use ff_node::Node;
 use ff_rec::NoMemory;
-use ff_unit::{Deal, Merge};
+use ff_unit::{Deal, Dealing, Merge};
 use std::alloc::Global;
 
 /// Adds the units of a farm: its deal, those of its workers, and its merge.
@@ -60,29 +60,42 @@ pub(crate) fn add_ofarm<N: Node>(
     Ok(())
 }
 
-/// Adds the units of an all-to-all: a deal, the left set with a deal behind each node, the right set with a merge before each, and
-/// a merge. The sets have so many nodes.
+/// Adds the first units of an all-to-all: its deal and the left set.
 #[cycle(units)]
-pub(crate) fn add_sets<N: Node>(
+pub(crate) fn add_left_set<N: Node>(
     alloc: Global,
-    sets: (u32, u32),
-    route: Route,
-    left: &Net<N>,
-    right: &Net<N>,
+    nodes: u32,
+    node: &Net<N>,
     keep: bool,
     units: &mut Vec<NetUnit<N>>,
 ) -> Result<(), NoMemory>
-    requires some { (1 ≤ sets.0) × (1 ≤ sets.1) }
-    requires few { (sets.0 ≤ 64) × (sets.1 ≤ 64) }
-    requires good { Good N.does (tree_of left.now) × Good N.does (tree_of right.now) }
+    requires some { 1 ≤ nodes }
+    requires few { nodes ≤ 64 }
+    requires good { Good N.does (tree_of node.now) }
     ensures { OnOk result (units.new.items ≡ units.old.items
-        ++ units_in N.does keep (A2a sets.0 (tree_of left.now) route sets.1 (tree_of right.now))) }
+        ++ AsDeal (opened_deal Dealing.InTurn nodes) ∷ times nodes (units_in N.does keep (tree_of node.now))) }
 {
-    units.push(NetUnit::of_deal(Deal::strict(sets.0)))?;
-    add_copies(alloc, left, sets.0, keep, units)?;
-    add_middle(sets.0, route, sets.1, units)?;
-    add_copies(alloc, right, sets.1, keep, units)?;
-    units.push(NetUnit::of_merge(Merge::new(sets.1)))?;
+    units.push(NetUnit::of_deal(Deal::strict(nodes)))?;
+    add_copies(alloc, node, nodes, keep, units)
+}
+
+/// Adds the last units of an all-to-all: the right set and its merge.
+#[cycle(units)]
+pub(crate) fn add_right_set<N: Node>(
+    alloc: Global,
+    nodes: u32,
+    node: &Net<N>,
+    keep: bool,
+    units: &mut Vec<NetUnit<N>>,
+) -> Result<(), NoMemory>
+    requires some { 1 ≤ nodes }
+    requires few { nodes ≤ 64 }
+    requires good { Good N.does (tree_of node.now) }
+    ensures { OnOk result (units.new.items ≡ units.old.items
+        ++ (times nodes (units_in N.does keep (tree_of node.now)) ++ AsMerge (opened_merge nodes) ∷ [])) }
+{
+    add_copies(alloc, node, nodes, keep, units)?;
+    units.push(NetUnit::of_merge(Merge::new(nodes)))?;
     Ok(())
 }
 
@@ -105,8 +118,8 @@ fn add_copies<N: Node>(
     Ok(())
 }
 
-// Adds the deals in the middle of an all-to-all, one for each node of the left set, and the merges, one for each of the right.
-fn add_middle<N: Node>(
+/// Adds the units between the sets of an all-to-all: a deal for each node of the left one, and a merge for each of the right one.
+pub(crate) fn add_middle<N: Node>(
     left: u32,
     route: Route,
     right: u32,

@@ -8,7 +8,7 @@ ghost use Rattle.ff_steps.specs.NetUnits.{net_does};
 ghost use Rattle.ff_steps.specs.PlanUnits.{opened_units, units_in, units_through, stage_unit, IsUnrun};
 
 use crate::NetUnit;
-use crate::copies::{add_farm, add_ofarm, add_sets};
+use crate::copies::{add_farm, add_left_set, add_middle, add_ofarm, add_right_set};
 use ff_net::laws::checked_networks_are_good;
 use ff_net::{Checked, Net};
 use ff_node::{Comb, Node};
@@ -66,8 +66,9 @@ pub(crate) fn add_units<N: Node>(
             right,
             right_node,
         } => {
-            let sets = (*left, *right);
-            add_sets(alloc, sets, *route, left_node, right_node, keep, units)
+            add_left_set(alloc, *left, left_node, keep, units)?;
+            add_middle(*left, *route, *right, units)?;
+            add_right_set(alloc, *right, right_node, keep, units)
         }
         Net::Wrap { .. } => Ok(()),
     }
