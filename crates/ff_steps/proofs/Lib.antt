@@ -19,6 +19,8 @@ pub mod Heads
 pub mod UnitsOpened
 pub mod PlanStages
 pub mod StageEnds
+pub mod Ports
+pub mod OneUnit
 pub mod OverBegins
 pub mod OverEnds
 pub mod OverWhole
@@ -29,3 +31,9 @@ pub mod NetRuns
 pub mod NetBegins
 pub mod NetEnds
 pub mod NetMade
+pub mod Shapes
+pub mod PutsOpen
+pub mod UnitFits
+pub mod FreshUnits
+pub mod UnitsAlong
+pub mod Times

@@ -4,7 +4,7 @@ use Rattle.std.proofs.lemmas.List.{length-map}
 use Rattle.ff_net.specs.Nodes.{nodes_in}
 use Rattle.ff_net.specs.Tree.{tree_of}
 use Rattle.ff_steps.proofs.UnitsOpened.{InRange-nodes_in}
-use Rattle.ff_steps.proofs.units.make_unit.Goals as goal
+use Rattle.ff_steps.proofs.units.add_stage.Goals as goal
 
 pub new-requires : goal.new-requires
 new-requires g c =
