@@ -18,7 +18,7 @@ use Rattle.ff_steps.specs.PlanUnits.{opened_kind, IsUnrun}
 use Rattle.ff_steps.proofs.Shapes.{IsShaped, IsOneMore}
 
 -- a unit that is what it was before its first step, and has so many ins and outs
-record IsFresh {U : Type 0} (d : Doing U) (n k : ℕ) (u : U) : Type 0 where
+pub record IsFresh {U : Type 0} (d : Doing U) (n k : ℕ) (u : U) : Type 0 where
   pub opened : d.opening u ≡ u
   pub made : d.Made u
   pub ins : d.ins u ≡ n
@@ -53,7 +53,7 @@ module _ {N : Type 0} (b : Behaviour N) (kind : KeepsKind b) (keep : Bool) where
     outs = refl;
   }
 
-  IsFresh-kind : (is_of : UnitKind) (t : Tree N) (n k : ℕ) → IsShaped is_of n k → IsFresh (net_does b) n k (opened_kind b keep is_of t n k)
+  pub IsFresh-kind : (is_of : UnitKind) (t : Tree N) (n k : ℕ) → IsShaped is_of n k → IsFresh (net_does b) n k (opened_kind b keep is_of t n k)
   IsFresh-kind Stage t n k shape = let s = IsFresh-stage t in record { opened = s.opened; made = s.made; ins = sym shape.0; outs = sym shape.1 }
   IsFresh-kind DealRr t n k shape = record { opened = refl; made = shape.1; ins = sym shape.0; outs = refl }
   IsFresh-kind DealOd t n k shape = record { opened = refl; made = shape.1; ins = sym shape.0; outs = refl }

@@ -1,4 +1,4 @@
--- What units gave and rejected that ran over the edges of a network's plan, once all have ended with their ins.
+-- What a unit gave and rejected that ran over the edges of a network's plan and has ended with its ins.
 use Rattle.std.proofs.Common.{◌≡◌, ℕ, ◌+◌, ◌-◌, ◌^◌, min, Bool, true, false, List, [], ◌∷◌, ◌++◌, length, map, sum_by, flat_map, Some, refl, sym, ap, ap₂, ◌∙◌, subst, append-nil, inl, inr, arith}
 use Rattle.std.proofs.lemmas.List.{length-append}
 use Rattle.std.proofs.lemmas.List.Recursion.{is_sum_by}
@@ -22,7 +22,8 @@ use Rattle.ff_steps.proofs.Heads.{head-same, tail-same, cons≢nil}
 use Rattle.ff_steps.proofs.OverBegins.{no_logs}
 use Rattle.ff_steps.proofs.PutsOpen.{EndsOnce, closed-ends_once}
 use Rattle.ff_steps.proofs.Shapes.{HasShape}
-use Rattle.ff_steps.proofs.UnitFits.{FitsUnit-unit, rejected-unit, kept-unit, none-unit, calm-unit}
+use Rattle.ff_steps.proofs.UnitFits.{FitsUnit-unit, calm-unit}
+use Rattle.ff_steps.proofs.UnitRejects.{rejected-unit, kept-unit, none-unit}
 
 -- the messages before the first Eos
 abbrev pub before_eos : List Message → List Message
@@ -47,18 +48,9 @@ before_eos-whole ms p inner is = ap before_eos (is ∙ sym (append-nil (closed m
 before_eos-first : (ms g p rest : List Message) → IsOpen ms → g ≡ closed ms → p ≡ g ++ rest → before_eos p ≡ ms
 before_eos-first ms g p rest inner is splits = ap before_eos (splits ∙ ap (λ l. l ++ rest) is) ∙ before_eos-closed ms rest inner
 
--- a capped count and a number, capped
-min-sum : (a c d m : ℕ) → min c m ≡ min d m → min (min a m + c) m ≡ min (a + d) m
-min-sum a c d m e = grind arith
-
 -- a unit has ended with its ins
 abbrev pub HasEndedWell : {U : Type 0} → Doing U → U → Type 0
 HasEndedWell d u = (d.done u ≡ true) × (d.fin u ≡ Some EosEnd)
-
--- how many records they rejected
-abbrev rejects_of : {U : Type 0} → Doing U → List U → ℕ
-rejects_of d [] = 0
-rejects_of d (u ∷ units) = d.rejects u + rejects_of d units
 
 module _ {N : Type 0} (b : Behaviour N) (kind : KeepsKind b) (laws : IsUnit (net_does b)) (keep : Bool) (got put : ℕ → List Message)
     (first : (e : ℕ) → (rest : List Message) × (put e ≡ got e ++ rest)) where
@@ -97,7 +89,7 @@ module _ {N : Type 0} (b : Behaviour N) (kind : KeepsKind b) (laws : IsUnit (net
     pub none : keep ≡ false → (net_does b).kept u ≡ []
     pub calm : (m : ℕ) → IsOverAt m l.row.kind l.net [] → ⊥
 
-  IsEndedAt-unit : (u : NetState N) (l : Laid N) → opening_net b u ≡ opened_unit b keep l → HasShape l
+  pub IsEndedAt-unit : (u : NetState N) (l : Laid N) → opening_net b u ≡ opened_unit b keep l → HasShape l
       → AllByRecursion (λ e. EndsOnce (put e)) l.row.ins → AllByRecursion (λ e. EndsOnce (put e)) l.row.outs
       → Ran (net_does b) u (map got l.row.ins) (map put l.row.outs) → HasEndedWell (net_does b) u → IsEndedAt l u
   IsEndedAt-unit u l made shape once_in once_out ran ended = record {
@@ -126,85 +118,3 @@ module _ {N : Type 0} (b : Behaviour N) (kind : KeepsKind b) (laws : IsUnit (net
       rejected =
           ap ((net_does b).rejected u) whole.gots_are ∙ rejected-unit b kind keep u l made shape whole.ins
           ∙ ap (rejected_by b l.row.kind l.net) (sym ins_are)
-
-  -- all of them
-  abbrev pub AreEnded : List (Laid N) → List (NetState N) → Type 0
-  AreEnded [] [] = Unit {0}
-  AreEnded [] (u ∷ units) = ⊥
-  AreEnded (l ∷ ls) [] = ⊥
-  AreEnded (l ∷ ls) (u ∷ units) = IsEndedAt l u × AreEnded ls units
-
-  pub AreEnded-units : (units : List (NetState N)) (ls : List (Laid N)) → AllByRecursion HasShape ls → AllByRecursion (λ l. AllByRecursion (λ e. EndsOnce (put e)) l.row.ins) ls
-      → AllByRecursion (λ l. AllByRecursion (λ e. EndsOnce (put e)) l.row.outs) ls → map (opening_net b) units ≡ map (opened_unit b keep) ls
-      → RanAlong (net_does b) got put (map (λ l. l.row) ls) units → AllByRecursion (HasEndedWell (net_does b)) units → AreEnded ls units
-  AreEnded-units [] [] shapes once_in once_out made ran ended = tt
-  AreEnded-units (u ∷ units) [] shapes once_in once_out made ran ended = absurd ran
-  AreEnded-units [] (l ∷ ls) shapes once_in once_out made ran ended = absurd ran
-  AreEnded-units (u ∷ units) (l ∷ ls) shapes once_in once_out made ran ended =
-      (IsEndedAt-unit u l (head-same made) shapes.0 once_in.0 once_out.0 ran.0 ended.0, AreEnded-units units ls shapes.1 once_in.1 once_out.1 (tail-same made) ran.1 ended.1)
-
-  -- they have a history, in which no master is over its limit
-  pub IsHistory-ended : (m : ℕ) (ls : List (Laid N)) (units : List (NetState N)) → AreEnded ls units → IsHistory b m ls edge (no_logs ls)
-  IsHistory-ended m [] [] ended = tt
-  IsHistory-ended m [] (u ∷ units) ended = absurd ended
-  IsHistory-ended m (l ∷ ls) [] ended = absurd ended
-  IsHistory-ended m (l ∷ ls) (u ∷ units) ended = (ended.0.fits m, IsHistory-ended m ls units ended.1)
-
-  pub calm-ended : (m : ℕ) (ls : List (Laid N)) (units : List (NetState N)) → AreEnded ls units → SomeOver m ls (no_logs ls) → ⊥
-  calm-ended m [] [] ended over = over
-  calm-ended m [] (u ∷ units) ended over = absurd ended
-  calm-ended m (l ∷ ls) [] ended over = absurd ended
-  calm-ended m (l ∷ ls) (u ∷ units) ended over = elim over [ inl here ↦ ended.0.calm m here | inr there ↦ calm-ended m ls units ended.1 there ]
-
-  -- each edge that one of them writes is whole
-  pub OnOuts-ended : (ls : List (Laid N)) (units : List (NetState N)) → AreEnded ls units → AllByRecursion (λ l. AllByRecursion (λ e. put e ≡ closed (edge e)) l.row.outs) ls
-  OnOuts-ended [] [] ended = tt
-  OnOuts-ended [] (u ∷ units) ended = absurd ended
-  OnOuts-ended (l ∷ ls) [] ended = absurd ended
-  OnOuts-ended (l ∷ ls) (u ∷ units) ended = (ended.0.puts, OnOuts-ended ls units ended.1)
-
-  -- how many records they rejected
-  rejects_of-ended : (ls : List (Laid N)) (units : List (NetState N)) → AreEnded ls units → counted (rejects_of (net_does b) units) ≡ counted (length (all_rejected b ls edge))
-  rejects_of-ended [] [] ended = refl
-  rejects_of-ended [] (u ∷ units) ended = absurd ended
-  rejects_of-ended (l ∷ ls) [] ended = absurd ended
-  rejects_of-ended (l ∷ ls) (u ∷ units) ended =
-      let here : List Rec = rejected_by b l.row.kind l.net (map edge l.row.ins) in
-      ap (λ n. counted (n + rejects_of (net_does b) units)) ended.0.number
-      ∙ min-sum (length here) (rejects_of (net_does b) units) (length (all_rejected b ls edge)) (2 ^ 64 - 1) (rejects_of-ended ls units ended.1)
-      ∙ ap counted (sym (length-append here (all_rejected b ls edge)))
-
-  pub number-ended : (ls : List (Laid N)) (units : List (NetState N)) → AreEnded ls units → counted (sum_by (net_does b).rejects units) ≡ counted (length (all_rejected b ls edge))
-  number-ended ls units ended = ap counted (sym (is_sum_by (rejects_of (net_does b)) (net_does b).rejects refl (λ u us. refl) units)) ∙ rejects_of-ended ls units ended
-
-  -- which they hold, behind what was taken out
-  pub kept-ended : keep ≡ true → (ls : List (Laid N)) (units : List (NetState N)) → AreEnded ls units
-      → Same (flat_map (net_does b).taken units ++ flat_map (net_does b).kept units) (all_rejected b ls edge)
-  kept-ended k [] [] ended = Same-refl []
-  kept-ended k [] (u ∷ units) ended = absurd ended
-  kept-ended k (l ∷ ls) [] ended = absurd ended
-  kept-ended k (l ∷ ls) (u ∷ units) ended = join (ended.0.kept k) (kept-ended k ls units ended.1)
-    where
-      join : (net_does b).taken u ++ (net_does b).kept u ≡ rejected_by b l.row.kind l.net (map edge l.row.ins)
-          → Same (flat_map (net_does b).taken units ++ flat_map (net_does b).kept units) (all_rejected b ls edge)
-          → Same (((net_does b).taken u ++ flat_map (net_does b).taken units) ++ ((net_does b).kept u ++ flat_map (net_does b).kept units)) (rejected_by b l.row.kind l.net (map edge l.row.ins) ++ all_rejected b ls edge)
-      join here rest = record {
-        by = λ h. omega (
-          arith,
-          weigh-append h ((net_does b).taken u ++ flat_map (net_does b).taken units) ((net_does b).kept u ++ flat_map (net_does b).kept units),
-          weigh-append h ((net_does b).taken u) (flat_map (net_does b).taken units),
-          weigh-append h ((net_does b).kept u) (flat_map (net_does b).kept units),
-          weigh-append h (rejected_by b l.row.kind l.net (map edge l.row.ins)) (all_rejected b ls edge),
-          weigh-append h (flat_map (net_does b).taken units) (flat_map (net_does b).kept units),
-          rest.by h,
-          weigh-append h ((net_does b).taken u) ((net_does b).kept u),
-          ap (weigh h) here,
-        );
-      }
-
-  -- where none are kept, none are held
-  pub none-ended : keep ≡ false → (ls : List (Laid N)) (units : List (NetState N)) → AreEnded ls units → flat_map (net_does b).kept units ≡ []
-  none-ended k [] [] ended = refl
-  none-ended k [] (u ∷ units) ended = absurd ended
-  none-ended k (l ∷ ls) [] ended = absurd ended
-  none-ended k (l ∷ ls) (u ∷ units) ended = ap₂ (λ here rest. here ++ rest) (ended.0.none k) (none-ended k ls units ended.1)

@@ -31,7 +31,8 @@ use Rattle.ff_steps.specs.OverEdges.{RanAlong, RanOver, HasAnswered}
 use Rattle.ff_steps.proofs.MessageLists.{items-carried}
 use Rattle.ff_steps.proofs.OneUnit.{no_copies-one_unit}
 use Rattle.ff_steps.proofs.OverBegins.{no_logs}
-use Rattle.ff_steps.proofs.OverEnds.{before_eos, before_eos-whole, HasEndedWell, AreEnded, AreEnded-units, IsHistory-ended, calm-ended, OnOuts-ended, number-ended, kept-ended, none-ended}
+use Rattle.ff_steps.proofs.OverEnds.{before_eos, before_eos-whole, HasEndedWell}
+use Rattle.ff_steps.proofs.OverLists.{AreEnded, AreEnded-units, IsHistory-ended, calm-ended, OnOuts-ended, number-ended, kept-ended, none-ended}
 use Rattle.ff_steps.proofs.PlanStages.{AreStages, AreStages-lay, OnIns, OnIns-lay}
 use Rattle.ff_steps.proofs.Ports.{each-port, port-each, each-front}
 use Rattle.ff_steps.proofs.PutsOpen.{EndsOnce, EndsOnce-ran, open-net}

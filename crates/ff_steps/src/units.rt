@@ -8,7 +8,8 @@ ghost use Rattle.ff_steps.specs.NetUnits.{net_does};
 ghost use Rattle.ff_steps.specs.PlanUnits.{opened_units, units_in, units_through, stage_unit, IsUnrun};
 
 use crate::NetUnit;
-use crate::copies::{add_farm, add_left_set, add_middle, add_ofarm, add_right_set};
+use crate::copies::{add_farm, add_left_set, add_ofarm, add_right_set};
+use crate::middle::add_middle;
 use ff_net::laws::checked_networks_are_good;
 use ff_net::{Checked, Net};
 use ff_node::{Comb, Node};

@@ -3,7 +3,7 @@ use Rattle.std.proofs.Common.{[], ◌∷◌, ◌++◌, ap, ◌∙◌}
 use Rattle.ff_steps.specs.NetUnits.{NetState, AsMerge}
 use Rattle.ff_steps.proofs.Times.{times-push}
 use Rattle.ff_unit.specs.Merges.{opened_merge}
-use Rattle.ff_steps.proofs.copies.add_merges.Goals as goal
+use Rattle.ff_steps.proofs.middle.add_merges.Goals as goal
 
 pub loop-preserved : goal.loop-preserved
 loop-preserved g c =

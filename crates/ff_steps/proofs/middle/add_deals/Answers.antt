@@ -4,7 +4,7 @@ use Rattle.ff_steps.specs.NetUnits.{NetState, AsDeal}
 use Rattle.ff_steps.specs.PlanUnits.{route_dealing}
 use Rattle.ff_steps.proofs.Times.{times-push}
 use Rattle.ff_unit.specs.Deals.{opened_deal}
-use Rattle.ff_steps.proofs.copies.add_deals.Goals as goal
+use Rattle.ff_steps.proofs.middle.add_deals.Goals as goal
 
 pub loop-preserved : goal.loop-preserved
 loop-preserved g c =
