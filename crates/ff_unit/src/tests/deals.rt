@@ -1,5 +1,7 @@
 // Deals between queues. The text of all outs is that of one behind the other: each of them ends with its `.` or `!`.
-ghost use Rattle.std.specs.Prelude.{◌≡◌, [], ◌∷◌, length, map, replicate, IfOk};
+ghost use Rattle.std.specs.Prelude.{◌≡◌, true, [], ◌∷◌, length, map, replicate, IfOk};
+ghost use Rattle.ff_rec.specs.Streams.{IsOpen};
+ghost use Rattle.ff_port.specs.Channels.{Puts};
 ghost use Rattle.ff_port.specs.Queues.{put_of};
 ghost use Rattle.ff_unit.specs.Deals.{deal_does};
 ghost use Rattle.ff_unit.specs.Units.{Ran};
@@ -34,7 +36,11 @@ impl Outbox<Record> for Slow {
 
     ghost link = { λ s. s.queue.cap };
 
-    fn try_put(&mut self, m: Msg<Record>) -> Put<Record> {
+    fn try_put(&mut self, m: Msg<Record>) -> Put<Record>
+        requires { IsOpen (put_of self.old.queue) }
+        ensures link { self.new.queue.cap ≡ self.old.queue.cap }
+        ensures puts { Puts true (put_of self.old.queue) 0 m result (put_of self.new.queue) 0 }
+    {
         if self.full == 0 {
             return self.queue.try_put(m);
         }
@@ -91,21 +97,48 @@ fn keys(rt: HostRuntime) {
 fn one_out(rt: HostRuntime) -> Result<(), Fail> {
     let alloc = rt.alloc();
     assert_eq!(rt; dealt(alloc, Deal::strict(1), "ab.", &[0])?.as_str(), "ab.");
-    assert_eq!(rt; dealt(alloc, Deal::on_demand(1), "ab.", &[0])?.as_str(), "ab.");
-    assert_eq!(rt; dealt(alloc, Deal::by_key(1, 1), "ab.", &[0])?.as_str(), "ab.");
-    assert_eq!(rt; dealt(alloc, Deal::strict_groups(1), "ab.", &[0])?.as_str(), "a|b|.");
-    assert_eq!(rt; dealt(alloc, Deal::groups_on_demand(1), "ab.", &[0; 2])?.as_str(), "a|b|.00.");
+    assert_eq!(rt;
+        dealt(alloc, Deal::on_demand(1), "ab.", &[0])?.as_str(),
+        "ab."
+    );
+    assert_eq!(rt;
+        dealt(alloc, Deal::by_key(1, 1), "ab.", &[0])?.as_str(),
+        "ab."
+    );
+    assert_eq!(rt;
+        dealt(alloc, Deal::strict_groups(1), "ab.", &[0])?.as_str(),
+        "a|b|."
+    );
+    assert_eq!(rt;
+        dealt(alloc, Deal::groups_on_demand(1), "ab.", &[0; 2])?.as_str(),
+        "a|b|.00."
+    );
     Ok(())
 }
 
 #[test]
 fn two_outs(rt: HostRuntime) -> Result<(), Fail> {
     let alloc = rt.alloc();
-    assert_eq!(rt; dealt(alloc, Deal::strict(2), "a|bc.", &[0; 2])?.as_str(), "ac.b.");
-    assert_eq!(rt; dealt(alloc, Deal::on_demand(2), "abc.", &[0; 2])?.as_str(), "abc..");
-    assert_eq!(rt; dealt(alloc, Deal::by_key(1, 2), "abca.", &[0; 2])?.as_str(), "b.aca.");
-    assert_eq!(rt; dealt(alloc, Deal::by_key(2, 2), "abc.", &[0; 2])?.as_str(), "abc..");
-    assert_eq!(rt; dealt(alloc, Deal::strict_groups(2), "abc!", &[0; 2])?.as_str(), "a|c|!b|!");
+    assert_eq!(rt;
+        dealt(alloc, Deal::strict(2), "a|bc.", &[0; 2])?.as_str(),
+        "ac.b."
+    );
+    assert_eq!(rt;
+        dealt(alloc, Deal::on_demand(2), "abc.", &[0; 2])?.as_str(),
+        "abc.."
+    );
+    assert_eq!(rt;
+        dealt(alloc, Deal::by_key(1, 2), "abca.", &[0; 2])?.as_str(),
+        "b.aca."
+    );
+    assert_eq!(rt;
+        dealt(alloc, Deal::by_key(2, 2), "abc.", &[0; 2])?.as_str(),
+        "abc.."
+    );
+    assert_eq!(rt;
+        dealt(alloc, Deal::strict_groups(2), "abc!", &[0; 2])?.as_str(),
+        "a|c|!b|!"
+    );
     Ok(())
 }
 
@@ -116,15 +149,27 @@ fn as_many_outs_as_there_may_be(rt: HostRuntime) -> Result<(), Fail> {
     for _ in 2..64 {
         wanted.push('.')?;
     }
-    assert_eq!(rt; dealt(alloc, Deal::strict(64), "ab.", &[0; 64])?.as_str(), wanted.as_str());
+    assert_eq!(rt;
+        dealt(alloc, Deal::strict(64), "ab.", &[0; 64])?.as_str(),
+        wanted.as_str()
+    );
     Ok(())
 }
 
 #[test]
 fn outs_that_are_full_first(rt: HostRuntime) -> Result<(), Fail> {
     let alloc = rt.alloc();
-    assert_eq!(rt; dealt(alloc, Deal::strict(2), "abc.", &[3, 0])?.as_str(), "ac.b.");
-    assert_eq!(rt; dealt(alloc, Deal::on_demand(2), "abc.", &[2, 1])?.as_str(), "bc.a.");
-    assert_eq!(rt; dealt(alloc, Deal::groups_on_demand(2), "ab.", &[1, 0, 0])?.as_str(), "b|.a|.10.");
+    assert_eq!(rt;
+        dealt(alloc, Deal::strict(2), "abc.", &[3, 0])?.as_str(),
+        "ac.b."
+    );
+    assert_eq!(rt;
+        dealt(alloc, Deal::on_demand(2), "abc.", &[2, 1])?.as_str(),
+        "bc.a."
+    );
+    assert_eq!(rt;
+        dealt(alloc, Deal::groups_on_demand(2), "ab.", &[1, 0, 0])?.as_str(),
+        "b|.a|.10."
+    );
     Ok(())
 }

@@ -1,5 +1,5 @@
-// Queues that hold what a text says: a letter stands for the record of that one letter, `|` for a Mark, `.` for Eos and `!` for
-// Abort.
+// Queues that hold what a text says: a letter stands for the record of that one letter, `|` for a Mark, a digit for a Pick, `.` for
+// Eos and `!` for Abort.
 ghost use Rattle.std.specs.Prelude.{◌≡◌, [], ◌∷◌, length, map, replicate, IfOk};
 ghost use Rattle.ff_rec.specs.Streams.{IsOpen, IsOpenMsg};
 ghost use Rattle.ff_port.specs.Queues.{put_of};
