@@ -4,6 +4,9 @@ ghost use Rattle.ff_unit.specs.Deals.{opened_deal, deal_does};
 ghost use Rattle.ff_unit.specs.Units.{Ran};
 ghost use Rattle.ff_unit.specs.declared.dealing.Dealing.TheVariants.{GroupsInTurn, GroupsOnDemand};
 
+#[cfg(test)]
+mod tests;
+
 use ff_port::{End, Ports, Step};
 use ff_rec::Record;
 use ff_unit::{Deal, Unit};
