@@ -88,21 +88,7 @@ module _ (u : DealState) (g : List Message) (ps : List Pair) where
     live_takes EosMsg some below live eos t = subst (λ e. TiedAt false e (deal_ends u e) (g ++ EosMsg ∷ []) ps) (sym eos) (TiedShut-ended u g ps free held t)
     live_takes AbortMsg some below live eos t =
         subst (λ e. TiedAt false (spoiled e) (deal_ends u (spoiled e)) (g ++ AbortMsg ∷ []) ps) (sym eos)
-        (cut_more (TiedCut-live u g ps u.free false Abort u.told free t), inr (HasAbort-push g))
-      where
-        cut_more : TiedCut (deal_ends u Abort) g ps → TiedCut (deal_ends u Abort) (g ++ AbortMsg ∷ []) ps
-        cut_more c = record {
-          picks = c.picks;
-          xs = c.xs;
-          more = c.more;
-          picked = c.picked;
-          items_are = items-append g (AbortMsg ∷ []) ∙ append-nil (items g) ∙ c.items_are;
-          none = c.none;
-          front = c.front;
-          rest = c.rest;
-          splits = c.splits;
-          telling = c.telling;
-        }
+        (TiedCut-more (deal_ends u Abort) g ps AbortMsg (TiedCut-live u g ps u.free false Abort u.told free t), inr (HasAbort-push g))
 
     -- one that was refused memory takes a message
     cut_takes : (m : Message) → u.live ≡ true → u.end ≡ Memory → TiedCut u g ps → Tied (deal_takes u m) (g ++ m ∷ []) ps
