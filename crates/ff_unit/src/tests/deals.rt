@@ -9,6 +9,7 @@ use ff_port::End;
 use ff_test_ports::{ports_of, scripts_at};
 use std::alloc::Global;
 use std::process::Abort;
+use std::str::Chars;
 use std::test::Fail;
 
 // A deal of this way between so many places.
@@ -150,18 +151,24 @@ fn read_by_picks(alloc: Global, outs: &str) -> Result<String, Fail> {
     let (mut first, mut second, mut third) = (first.chars(), second.chars(), third.chars());
     let mut letters = String::new(alloc);
     for pick in picks.chars() {
-        let place = match pick {
-            '0' => &mut first,
-            '1' => &mut second,
-            '2' => &mut third,
+        let letter = match pick {
+            '0' => next_group(&mut first),
+            '1' => next_group(&mut second),
+            '2' => next_group(&mut third),
             _ => break,
         };
-        if let Some(letter) = place.next() {
+        if let Some(letter) = letter {
             letters.push(letter)?;
         }
-        place.next();
     }
     Ok(letters)
+}
+
+// The record of the next group of one record; its Mark goes, too.
+fn next_group(out: &mut Chars<'_>) -> Option<char> {
+    let letter = out.next();
+    out.next();
+    letter
 }
 
 // As many outs as may be, each with a record.
