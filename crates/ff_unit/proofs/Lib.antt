@@ -3,3 +3,4 @@ pub mod DealOuts
 pub mod UnitRuns
 pub mod UnitAborts
 pub mod FlagViews
+pub mod EmptyQueues

@@ -1,5 +1,6 @@
 //! The units of a network: what each of them is seen as and promises, and those that work on one stream. A stage runs a node
-//! between its in and its out.
+//! between its in and its out. A deal gives each record of its in to one of several outs, and a merge brings what comes at
+//! several ins on to one out.
 #![tactic(auto)]
 
 mod aborts;

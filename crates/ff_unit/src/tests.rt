@@ -1,2 +1,4 @@
 // What no clause says: that the units do their work while memory is there, and at which end they look first.
+mod deals;
 mod merges;
+mod texts;

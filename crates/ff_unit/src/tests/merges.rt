@@ -1,116 +1,80 @@
-// A merge between plain queues. A text stands for the messages on an in or on the out: a letter for the record of that one
-// letter, `|` for a Mark, `.` for Eos and `!` for Abort.
-ghost use Rattle.std.specs.Prelude.{◌≡◌, ◌≤◌, [], ◌∷◌, length, map, replicate, IfOk};
-ghost use Rattle.ff_rec.specs.Streams.{IsOpen, IsOpenMsg};
-ghost use Rattle.ff_port.specs.Queues.{put_of, empty_queue};
-ghost use Rattle.ff_unit.specs.Units.{Ran};
+// A merge between plain queues, told by the texts of its ins and of its out.
+ghost use Rattle.std.specs.Prelude.{◌≡◌, ◌≤◌, length, true};
+ghost use Rattle.ff_rec.specs.Streams.{IsOpen};
+ghost use Rattle.ff_port.specs.Channels.{Puts};
+ghost use Rattle.ff_port.specs.Queues.{put_of, room_of};
 
+use super::texts::{ends, run, write_inside};
 use crate::{Merge, Unit};
-use ff_port::{End, Inbox, Outbox, OwnPorts, PlainQueue, Ports, Put, Step};
-use ff_rec::{Field, Msg, Record};
+use ff_port::{End, Outbox, PlainQueue, Put, Step};
+use ff_rec::{Msg, Record};
 use std::alloc::Global;
 use std::test::Fail;
 
-// The queues of a merge.
-type Ends = OwnPorts<PlainQueue<Record>, PlainQueue<Record>, Record>;
-
-// Puts a message behind which others may come.
-fn put(q: &mut PlainQueue<Record>, m: Msg<Record>) -> Result<(), Fail>
-    requires open { IsOpen (put_of q.old) }
-    requires goes_on { IsOpenMsg m }
-    ensures open { IsOpen (put_of q.new) }
-    ensures got { q.new.got ≡ q.old.got }
-{
-    match q.try_put(m) {
-        Put::Done => Ok(()),
-        _ => Err("no room")?,
-    }
+// A queue that is refused memory once it has taken so many records.
+#[derive(Drop)]
+struct Stingy {
+    queue: PlainQueue<Record>,
+    left: u32,
 }
 
-// The queue with its last message.
-fn ended(q: PlainQueue<Record>, m: Msg<Record>) -> Result<PlainQueue<Record>, Fail>
-    requires { IsOpen (put_of q) }
-    ensures { IfOk result (λ p. p.got ≡ q.got) }
-{
-    let mut q = q;
-    match q.try_put(m) {
-        Put::Done => Ok(q),
-        _ => Err("no room")?,
-    }
-}
+impl Outbox<Record> for Stingy {
+    ghost use Rattle.std.specs.Prelude.{ℕ, true};
+    ghost use Rattle.ff_port.specs.Queues.{put_of, room_of};
 
-// A queue that holds the messages of a text.
-fn queue(alloc: Global, text: &str) -> Result<PlainQueue<Record>, Fail>
-    ensures { IfOk result (λ q. q.got ≡ []) }
-{
-    let mut q = PlainQueue::new(alloc, 100)?;
-    for letter in text.as_bytes() {
-        match *letter {
-            b'.' => return ended(q, Msg::Eos),
-            b'!' => return ended(q, Msg::Abort),
-            b'|' => put(&mut q, Msg::Mark)?,
-            other => {
-                let field = Field::new(alloc, &[other])?;
-                put(&mut q, Msg::Item(Record::one(alloc, &field)?))?;
+    ghost put = { λ s. put_of s.queue };
+
+    ghost room = { λ s. room_of s.queue };
+
+    ghost waiting = { λ s. 0 };
+
+    ghost grows = { true };
+
+    ghost Link = { ℕ };
+
+    ghost link = { λ s. s.queue.cap };
+
+    fn try_put(&mut self, m: Msg<Record>) -> Put<Record>
+        requires { IsOpen (put_of self.old.queue) }
+        ensures link { self.new.queue.cap ≡ self.old.queue.cap }
+        ensures puts { Puts true (put_of self.old.queue) (room_of self.old.queue) m result
+            (put_of self.new.queue) (room_of self.new.queue) }
+    {
+        match m {
+            Msg::Item(r) if self.left == 0 => Put::NoMemory(Msg::Item(r)),
+            Msg::Item(r) => {
+                self.left -= 1;
+                self.queue.try_put(Msg::Item(r))
             }
+            other => self.queue.try_put(other),
         }
     }
-    Ok(q)
-}
 
-// The ends of a merge whose ins hold these texts.
-fn ends(alloc: Global, texts: &[&str]) -> Result<Ends, Fail>
-    ensures ins { IfOk result (λ p. map (λ q. q.got) p.ins.items ≡ replicate (length texts.now) []) }
-    ensures outs { IfOk result (λ p. p.outs.items ≡ empty_queue 100 ∷ []) }
-{
-    let mut ins = Vec::new(alloc);
-    for text in texts {
-        ins.push(queue(alloc, text)?)?;
+    fn flush(&mut self) -> bool {
+        self.queue.flush()
     }
-    let mut outs = Vec::new(alloc);
-    outs.push(PlainQueue::new(alloc, 100)?)?;
-    Ok(OwnPorts::new(ins, outs))
 }
 
-// Steps until the unit ends, at most a thousand times.
-fn run<U: Unit, P: Ports<Record>>(unit: &mut U, ports: &mut P) -> Option<End>
-    requires { Ran U.does unit.old (P.gots ports.old) (P.puts ports.old) }
-{
-    for _ in 0..1000 {
-        if let Step::Ended(end) = unit.step(ports) {
-            return Some(end);
-        }
-    }
-    None
-}
-
-// Writes what is inside a queue.
-fn write_inside(text: &mut String, q: &mut PlainQueue<Record>) -> Result<(), Fail> {
-    for _ in 0..100 {
-        match q.try_take() {
-            Some(Msg::Item(r)) => text.push_str(str::from_utf8(r.joined())?)?,
-            Some(Msg::Mark) => text.push('|')?,
-            Some(Msg::Pick(_)) => text.push('?')?,
-            Some(Msg::Eos) => text.push('.')?,
-            Some(Msg::Abort) => text.push('!')?,
-            None => {}
-        }
-    }
-    Ok(())
-}
-
-// What a merge of these ins puts, and how it ends.
-fn merged(alloc: Global, texts: &[&str]) -> Result<(String, Option<End>), Fail>
+// What a merge of these ins puts, and how it ends, where memory is there for so many records.
+fn merged(alloc: Global, texts: &[&str], memory: u32) -> Result<(String, Option<End>), Fail>
     requires some { 1 ≤ length texts.now }
     requires few { length texts.now ≤ 64 }
 {
-    let mut ports = ends(alloc, texts)?;
+    let queue = PlainQueue::new(alloc, 100)?;
+    let mut ports = ends(
+        alloc,
+        texts,
+        Stingy {
+            queue,
+            left: memory,
+        },
+    )?;
     let mut merge = Merge::new(texts.len() as u32);
     let end = run(&mut merge, &mut ports);
     let (_, mut outs) = ports.into_ends();
     let mut text = String::new(alloc);
     for out in &mut outs {
-        write_inside(&mut text, out)?;
+        write_inside(&mut text, &mut out.queue)?;
     }
     Ok((text, end))
 }
@@ -125,7 +89,7 @@ fn one_in(rt: HostRuntime) -> Result<(), Fail> {
         ("ab!", "ab!", Some(End::Abort)),
         ("ab", "ab", None),
     ] {
-        let (text, ended) = merged(rt.alloc(), &[only])?;
+        let (text, ended) = merged(rt.alloc(), &[only], 100)?;
         assert_eq!(rt; text.as_str(), out);
         assert_eq!(rt; ended, end);
     }
@@ -153,7 +117,23 @@ fn two_ins_in_turn(rt: HostRuntime) -> Result<(), Fail> {
         ("a", "xy.", "axy", None),
         ("", "xy!", "xy", None),
     ] {
-        let (text, ended) = merged(rt.alloc(), &[first, second])?;
+        let (text, ended) = merged(rt.alloc(), &[first, second], 100)?;
+        assert_eq!(rt; text.as_str(), out);
+        assert_eq!(rt; ended, end);
+    }
+    Ok(())
+}
+
+#[test]
+fn memory_runs_out_at_each_record(rt: HostRuntime) -> Result<(), Fail> {
+    for (memory, out, end) in [
+        (0, "!", Some(End::Memory)),
+        (1, "a!", Some(End::Memory)),
+        (2, "ax!", Some(End::Memory)),
+        (3, "axb!", Some(End::Memory)),
+        (4, "axby.", Some(End::Eos)),
+    ] {
+        let (text, ended) = merged(rt.alloc(), &["ab.", "xy."], memory)?;
         assert_eq!(rt; text.as_str(), out);
         assert_eq!(rt; ended, end);
     }
@@ -162,7 +142,7 @@ fn two_ins_in_turn(rt: HostRuntime) -> Result<(), Fail> {
 
 #[test]
 fn as_many_ins_as_there_may_be(rt: HostRuntime) -> Result<(), Fail> {
-    let (text, ended) = merged(rt.alloc(), &["x."; 64])?;
+    let (text, ended) = merged(rt.alloc(), &["x."; 64], 100)?;
     let mut out = String::new(rt.alloc());
     for _ in 0..64 {
         out.push('x')?;
@@ -175,7 +155,7 @@ fn as_many_ins_as_there_may_be(rt: HostRuntime) -> Result<(), Fail> {
 
 #[test]
 fn a_merge_that_is_told_to_abort_puts_abort(rt: HostRuntime) -> Result<(), Fail> {
-    let mut ports = ends(rt.alloc(), &["a.", "b."])?;
+    let mut ports = ends(rt.alloc(), &["a.", "b."], PlainQueue::new(rt.alloc(), 1)?)?;
     let mut merge = Merge::new(2);
     merge.abort(&mut ports);
     assert_eq!(rt; merge.end(), Some(End::Abort));
