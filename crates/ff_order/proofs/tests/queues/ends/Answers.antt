@@ -1,6 +1,6 @@
 use Rattle.std.proofs.Common.{◌≡◌, [], length, map, replicate, ap, ◌∙◌, arith}
 use Rattle.ff_order.proofs.UntakenQueues.{gots-AllEmpty}
-use Rattle.ff_order.proofs.tests.ends.Goals as goal
+use Rattle.ff_order.proofs.tests.queues.ends.Goals as goal
 
 pub returns-clause-ins : goal.returns-clause-ins
 returns-clause-ins c =
