@@ -1,19 +1,17 @@
 -- The units of a network's plan before their first steps took and put nothing.
-use Rattle.std.proofs.Common.{◌≡◌, ℕ, suc, ◌-◌, Bool, true, List, [], ◌∷◌, length, replicate, refl, sym, ap, ◌∙◌, subst, arith}
+use Rattle.std.proofs.Common.{◌≡◌, ℕ, suc, ◌-◌, Bool, true, [], replicate, refl, sym, ap, subst, arith}
 use Rattle.std.proofs.lemmas.List.{length-replicate}
 use Rattle.ff_node.specs.Behaviour.{Behaviour, KeepsKind}
-use Rattle.ff_node.specs.Comb.{comb_node}
 use Rattle.ff_node.specs.CombKindLaws.{comb_keeps_kind}
 use Rattle.ff_net.specs.Good.{InRange}
 use Rattle.ff_net.specs.Tree.{Tree}
-use Rattle.ff_order.specs.OMerges.{opened_omerge}
 use Rattle.ff_plan.specs.declared.kind.UnitKind.{UnitKind}
 use Rattle.ff_plan.specs.declared.kind.UnitKind.TheVariants.{Stage, DealRr, DealOd, DealBy, Merge, ODealRr, ODealOd, OMergeTurn, OMergePick, Master, Worker}
 use Rattle.ff_plan.specs.Histories.{group_of}
 use Rattle.ff_unit.specs.Merges.{opened_merge}
 use Rattle.ff_unit.specs.Stage.{started}
 use Rattle.ff_unit.specs.Units.{Doing, Ran, RanFrom}
-use Rattle.ff_steps.specs.NetUnits.{NetState, AsStage, AsMerge, net_does, opening_net}
+use Rattle.ff_steps.specs.NetUnits.{AsStage, AsMerge, net_does, opening_net}
 use Rattle.ff_steps.specs.PlanUnits.{opened_kind, IsUnrun}
 use Rattle.ff_steps.proofs.Shapes.{IsShaped, IsOneMore}
 

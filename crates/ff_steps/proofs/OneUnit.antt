@@ -1,5 +1,5 @@
 -- A network with one unit is a leaf or a comb, alone or in pipes.
-use Rattle.std.proofs.Common.{◌≡◌, ℕ, ◌≤◌, false, refl, arith}
+use Rattle.std.proofs.Common.{◌≡◌, ◌≤◌, false, refl, arith}
 use Rattle.std.proofs.lemmas.Bool.{true≢false, or_parts, or_from}
 use Rattle.ff_node.specs.Behaviour.{Behaviour}
 use Rattle.ff_net.specs.Counts.{count, units, all_units}

@@ -1,25 +1,18 @@
 -- What a unit gave and rejected that ran over the edges of a network's plan and has ended with its ins.
-use Rattle.std.proofs.Common.{◌≡◌, ℕ, ◌+◌, ◌-◌, ◌^◌, min, Bool, true, false, List, [], ◌∷◌, ◌++◌, length, map, sum_by, flat_map, Some, refl, sym, ap, ap₂, ◌∙◌, subst, append-nil, inl, inr, arith}
-use Rattle.std.proofs.lemmas.List.{length-append}
-use Rattle.std.proofs.lemmas.List.Recursion.{is_sum_by}
+use Rattle.std.proofs.Common.{◌≡◌, ℕ, Bool, true, false, List, [], ◌∷◌, ◌++◌, length, map, Some, refl, sym, ap, ap₂, ◌∙◌, subst, append-nil}
 use Rattle.std.specs.List.{AllByRecursion}
-use Rattle.ff_rec.specs.Lines.{Rec}
 use Rattle.ff_rec.specs.Streams.{IsOpen, closed}
-use Rattle.ff_rec.specs.Weights.{weigh, Same}
 use Rattle.ff_rec.specs.declared.msg.Msg.TheVariants.{Item, Mark, Pick, Eos, Abort}
-use Rattle.ff_rec.proofs.WeightLaws.{weigh-append, Same-refl}
 use Rattle.ff_node.specs.Behaviour.{Behaviour, KeepsKind}
 use Rattle.ff_node.specs.Runs.{Message, FitsWhole}
 use Rattle.ff_node.specs.Sends.{counted}
-use Rattle.ff_plan.specs.Histories.{FitsUnit, IsHistory, IsOverAt, SomeOver, all_rejected, rejected_by}
+use Rattle.ff_plan.specs.Histories.{FitsUnit, IsOverAt, rejected_by}
 use Rattle.ff_plan.specs.Rows.{Laid}
 use Rattle.ff_port.specs.declared.answers.End.TheVariants.{Eos as EosEnd}
 use Rattle.ff_unit.specs.Units.{Doing, IsUnit, Ran, HasRejects}
 use Rattle.ff_steps.specs.NetUnits.{NetState, net_does, opening_net}
-use Rattle.ff_steps.specs.OverEdges.{RanAlong}
 use Rattle.ff_steps.specs.PlanUnits.{opened_unit}
 use Rattle.ff_steps.proofs.Heads.{head-same, tail-same, cons≢nil}
-use Rattle.ff_steps.proofs.OverBegins.{no_logs}
 use Rattle.ff_steps.proofs.PutsOpen.{EndsOnce, closed-ends_once}
 use Rattle.ff_steps.proofs.Shapes.{HasShape}
 use Rattle.ff_steps.proofs.UnitFits.{FitsUnit-unit, calm-unit}

@@ -1,7 +1,6 @@
 -- Units that ran over the edges of a network's plan and have all ended with their ins gave an answer of the network.
 use Rattle.std.proofs.Common.{◌≡◌, ℕ, zero, suc, ◌<◌, Bool, true, false, List, [], ◌∷◌, ◌++◌, length, map, flat_map, refl, sym, ap, ap₂, ◌∙◌, subst, append-nil, arith}
 use Rattle.std.specs.List.{AllByRecursion}
-use Rattle.std.proofs.lemmas.List.{length-map}
 use Rattle.ff_rec.specs.Lines.{Rec}
 use Rattle.ff_rec.specs.Streams.{carried, closed, items}
 use Rattle.ff_rec.specs.declared.msg.Msg.TheVariants.{Eos}
@@ -10,7 +9,7 @@ use Rattle.ff_node.specs.Behaviour.{Behaviour, KeepsKind, node_rejected}
 use Rattle.ff_node.specs.Comb.{comb_node, running}
 use Rattle.ff_node.specs.Runs.{Message}
 use Rattle.ff_node.specs.Sends.{counted}
-use Rattle.ff_net.specs.Counts.{units as units_in_all, edges}
+use Rattle.ff_net.specs.Counts.{edges}
 use Rattle.ff_net.specs.Forms.{has_wrap, has_copies}
 use Rattle.ff_net.specs.Good.{Good}
 use Rattle.ff_net.specs.Nodes.{nodes_in, node_groups}

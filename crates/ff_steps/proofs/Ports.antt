@@ -1,5 +1,5 @@
 -- What is so of each edge of a list of ports, and of the edge of one port.
-use Rattle.std.proofs.Common.{◌≡◌, ℕ, zero, suc, ◌<◌, List, [], ◌∷◌, ◌++◌, length, get_or, refl, subst, arith}
+use Rattle.std.proofs.Common.{ℕ, zero, suc, ◌<◌, List, [], ◌∷◌, ◌++◌, length, get_or, refl, subst, arith}
 use Rattle.std.specs.List.{AllByRecursion}
 use Rattle.ff_plan.specs.WiringLaws.{IsPort}
 

@@ -1,11 +1,10 @@
 -- On no out does a unit put anything behind an end.
-use Rattle.std.proofs.Common.{◌≡◌, ℕ, zero, suc, ◌≤◌, ◌⊎◌, List, [], ◌∷◌, ◌++◌, length, replicate, set, refl, sym, ap, ◌∙◌, subst, inl, inr, arith, Option, None, Some, IsSome}
+use Rattle.std.proofs.Common.{◌≡◌, ℕ, zero, suc, ◌≤◌, ◌⊎◌, List, [], ◌∷◌, ◌++◌, length, replicate, refl, sym, ap, ◌∙◌, subst, inl, inr, arith, Option, None, Some, IsSome}
 use Rattle.std.specs.List.{AllByRecursion}
 use Rattle.ff_rec.specs.Lines.{Rec}
 use Rattle.ff_rec.specs.Streams.{IsOpen, IsOpenMsg, at, added, closed}
-use Rattle.ff_rec.specs.declared.msg.Msg.TheVariants.{Item, Eos}
+use Rattle.ff_rec.specs.declared.msg.Msg.TheVariants.{Eos}
 use Rattle.ff_node.specs.Behaviour.{Behaviour}
-use Rattle.ff_node.specs.Comb.{Part, comb_node}
 use Rattle.ff_node.specs.Runs.{Message, Act, Took, Gave, Refused, Idle, Told, Handed, Leads, took_on, gave_on}
 use Rattle.ff_unit.specs.Deals.{DealState, DealReady, DealGives, AreOpenOuts}
 use Rattle.ff_unit.specs.Units.{Doing, IsUnit, Ran, RanFrom}

@@ -1,10 +1,7 @@
 -- A unit of a plan fits what is said of its kind.
-use Rattle.std.proofs.Common.{◌≡◌, ℕ, Bool, true, false, List, [], ◌∷◌, ◌++◌, map, length, replicate, refl, sym, ap, ◌∙◌, subst, append-nil}
+use Rattle.std.proofs.Common.{◌≡◌, ℕ, Bool, true, List, [], length, sym, subst}
 use Rattle.std.proofs.lemmas.List.{length-replicate}
-use Rattle.ff_rec.specs.Lines.{Rec}
-use Rattle.ff_rec.specs.Streams.{at, items, closed}
-use Rattle.ff_rec.specs.declared.msg.Msg.TheVariants.{Eos}
-use Rattle.ff_node.specs.Behaviour.{Behaviour, KeepsKind, node_rejected}
+use Rattle.ff_node.specs.Behaviour.{Behaviour, KeepsKind}
 use Rattle.ff_node.specs.Comb.{comb_node}
 use Rattle.ff_node.specs.CombKindLaws.{comb_keeps_kind}
 use Rattle.ff_node.specs.Fits.{FitsMerge}
@@ -12,14 +9,12 @@ use Rattle.ff_node.specs.Runs.{Message, BeginsToFit}
 use Rattle.ff_net.specs.Tree.{Tree}
 use Rattle.ff_plan.specs.declared.kind.UnitKind.{UnitKind}
 use Rattle.ff_plan.specs.declared.kind.UnitKind.TheVariants.{Stage, DealRr, DealOd, DealBy, Merge, ODealRr, ODealOd, OMergeTurn, OMergePick, Master, Worker}
-use Rattle.ff_plan.specs.Histories.{group_of, FitsKind, FitsUnit, BeginsUnit, SomeOver, IsOverAt, rejected_by}
+use Rattle.ff_plan.specs.Histories.{group_of, FitsKind, FitsUnit, BeginsUnit, IsOverAt}
 use Rattle.ff_plan.specs.Rows.{Laid, laid}
-use Rattle.ff_unit.specs.MessageLaws.{items-append}
-use Rattle.ff_unit.specs.Units.{HasRejects}
 use Rattle.ff_steps.specs.NetUnits.{NetState, AsStage, AsDeal, AsMerge, AsOMerge, net_does, opening_net}
 use Rattle.ff_steps.specs.PlanUnits.{opened_kind, opened_unit}
 use Rattle.ff_steps.proofs.Shapes.{IsShaped, HasShape}
-use Rattle.ff_steps.proofs.StageSame.{FitsStage-same, node_rejected-same}
+use Rattle.ff_steps.proofs.StageSame.{FitsStage-same}
 
 -- the log of a unit that is no master tells of no limit
 pub calm-kind : {N : Type 0} (m n k : ℕ) (is_of : UnitKind) (t : Tree N) → IsShaped is_of n k → IsOverAt m is_of t [] → ⊥

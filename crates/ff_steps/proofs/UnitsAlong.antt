@@ -1,5 +1,5 @@
 -- The units of a plan are those along the tree, whatever the edges between them.
-use Rattle.std.proofs.Common.{◌≡◌, ℕ, zero, suc, ◌+◌, ◌-◌, ◌*◌, ◌<◌, Bool, true, false, List, [], ◌∷◌, ◌++◌, length, map, refl, sym, ap, ap₂, ◌∙◌, append_assoc, append-nil, add-zero, inl, inr, ◌⊎◌, arith}
+use Rattle.std.proofs.Common.{◌≡◌, ℕ, zero, suc, ◌+◌, ◌-◌, ◌*◌, Bool, true, false, List, [], ◌∷◌, ◌++◌, map, refl, sym, ap, ap₂, ◌∙◌, append-nil, add-zero, inl, inr, ◌⊎◌, arith}
 use Rattle.std.proofs.lemmas.Bool.{true≢false, false≢true, or_parts}
 use Rattle.std.proofs.lemmas.List.{map-append}
 use Rattle.ff_node.specs.Behaviour.{Behaviour}
@@ -14,12 +14,11 @@ use Rattle.ff_net.specs.declared.net.Route.TheVariants.{Rr, Od, By}
 use Rattle.ff_net.specs.declared.net.Sched.{Sched}
 use Rattle.ff_net.specs.declared.net.Sched.TheVariants.{Rr as DealInTurn, Od as DealOnDemand}
 use Rattle.ff_order.specs.OMerges.{opened_omerge}
-use Rattle.ff_plan.specs.declared.kind.UnitKind.TheVariants.{Stage, DealRr, Merge}
+use Rattle.ff_plan.specs.declared.kind.UnitKind.TheVariants.{Stage, Merge}
 use Rattle.ff_plan.specs.Laying.{lay, lay_parts, lay_copies, copies, row_deals, column_merges, deal_kind, odeal_kind, omerge_kind, route_kind}
-use Rattle.ff_plan.specs.Rows.{Laid, laid, range, stride}
+use Rattle.ff_plan.specs.Rows.{Laid, laid, range}
 use Rattle.ff_unit.specs.Deals.{opened_deal}
 use Rattle.ff_unit.specs.Merges.{opened_merge}
-use Rattle.ff_unit.specs.declared.dealing.Dealing.TheVariants.{InTurn}
 use Rattle.ff_steps.specs.NetUnits.{NetState, AsDeal, AsMerge, AsOMerge}
 use Rattle.ff_steps.specs.PlanUnits.{opened_unit, opened_units, units_in, units_through, stage_unit, times, between, dealing, group_dealing, group_order, route_dealing}
 use Rattle.ff_steps.proofs.Shapes.{length-range, length-stride, length-picked}

@@ -11,7 +11,7 @@ use Rattle.ff_net.specs.RuleTests.{is_node}
 use Rattle.ff_net.specs.Tree.{Tree, Leaf, Pipe, Comb, Farm, OFarm, A2a, Wrap}
 use Rattle.ff_plan.specs.Laying.{units_of}
 use Rattle.ff_plan.specs.Rows.{Laid}
-use Rattle.ff_steps.specs.NetUnits.{NetState, net_does}
+use Rattle.ff_steps.specs.NetUnits.{net_does}
 use Rattle.ff_steps.specs.PlanUnits.{opened_unit, opened_units, IsUnrun}
 use Rattle.ff_steps.proofs.FreshUnits.{IsUnrun-kind}
 use Rattle.ff_steps.proofs.Shapes.{HasShape, shapes-lay}

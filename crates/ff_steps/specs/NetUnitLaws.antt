@@ -1,5 +1,5 @@
 -- A unit of a network keeps the laws of a unit, as its part does.
-use Rattle.std.proofs.Common.{◌≡◌, ◌⊎◌, true, false, List, [], Some, IsSome, refl, sym, ap, ◌∙◌, subst}
+use Rattle.std.proofs.Common.{◌≡◌, ◌⊎◌, true, false, List, [], Some, IsSome, refl, ap, ◌∙◌}
 use Rattle.ff_node.specs.Behaviour.{Behaviour, KeepsKind}
 use Rattle.ff_node.specs.Classes.{ClassLaw}
 use Rattle.ff_node.specs.Comb.{Part, comb_node}

@@ -1,5 +1,5 @@
 -- A unit that is one of several kinds runs as that kind does.
-use Rattle.std.proofs.Common.{◌≡◌, ℕ, List, [], ◌∷◌, replicate, refl, sym, ap, ◌∙◌, subst}
+use Rattle.std.proofs.Common.{◌≡◌, ℕ, List, [], ◌∷◌, refl, sym, ap, subst}
 use Rattle.ff_node.specs.Runs.{Message, Act, Leads, HasRun}
 
 -- `as` is how a unit of the one kind is seen among others

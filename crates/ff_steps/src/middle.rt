@@ -48,11 +48,7 @@ fn add_deals<N: Node>(
 }
 
 // Adds so many merges with so many ins.
-fn add_merges<N: Node>(
-    count: u32,
-    ins: u32,
-    units: &mut Vec<NetUnit<N>>,
-) -> Result<(), NoMemory>
+fn add_merges<N: Node>(count: u32, ins: u32, units: &mut Vec<NetUnit<N>>) -> Result<(), NoMemory>
     requires some { 1 ≤ ins }
     requires few { ins ≤ 64 }
     ensures { OnOk result (units.new.items ≡ units.old.items
