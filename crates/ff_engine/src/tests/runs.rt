@@ -264,7 +264,10 @@ fn meet_copies(rt: HostRuntime) -> Result<(), Fail> {
         assert!(rt; flags.first_met.load(), "{form}");
         let taken = sink.taken();
         let as_read = taken == b"1\n2\n".as_slice();
-        assert!(rt; as_read || (form != 1 && taken == b"2\n1\n".as_slice()), "{form}: {taken:?}");
+        assert!(rt;
+            as_read || (form != 1 && taken == b"2\n1\n".as_slice()),
+            "{form}: {taken:?}"
+        );
         assert_eq!(rt; spawner.starts(), units, "{form}");
     }
     Ok(())
