@@ -1,5 +1,5 @@
 -- The core of a network, by the parts that its plan gives.
-use Rattle.std.proofs.Common.{◌≡◌, ℕ, zero, suc, ◌<◌, ◌≤◌, Bool, true, false, if◌then◌else◌, List, length, get_or, refl, sym, ap, ◌∙◌, subst, arith}
+use Rattle.std.proofs.Common.{◌≡◌, ℕ, ◌<◌, ◌≤◌, Bool, true, false, if◌then◌else◌, List, length, get_or, sym, ap, ◌∙◌, subst, arith}
 use Rattle.std.proofs.lemmas.List.{length-map, get_or-map}
 use Rattle.ff_rec.specs.Lines.{Rec}
 use Rattle.ff_node.specs.Behaviour.{Behaviour, KeepsKind}
@@ -23,11 +23,8 @@ use Rattle.ff_steps.specs.NetCores.{edge_queues, port_rows, opened_core, opened_
 use Rattle.ff_steps.specs.NetUnits.{NetState, net_does}
 use Rattle.ff_steps.specs.PlanUnits.{opened_unit, opened_units}
 use Rattle.ff_steps.specs.Wiring.{Row}
+use Rattle.ff_steps.proofs.Shapes.{length-range}
 use Rattle.ff_steps.proofs.NetOpened.{AreEmpty-queues, IsSound-opened, IsNetCore-opened}
-
-length-range : (e n : ℕ) → length (range e n) ≡ n
-length-range e zero = refl
-length-range e (suc n) = ap suc (length-range (suc e) n)
 
 -- each edge of a plan has room
 pub some-cap : {N : Type 0} (t : Tree N) (cap : ℕ) → 1 ≤ cap → (edges : List Edge) → edges ≡ (plan_of t cap Ring).edges
