@@ -34,7 +34,7 @@ pub fn make_units<N: Node>(
     Ok(units)
 }
 
-// Adds the units of a network to these. Those of a wrap aren't made here.
+/// Adds the units of a network to these. Those of a wrap aren't made here.
 #[cycle(units)]
 #[tactic(auto, using(ff_net::proofs::NodeLists::node_lists))]
 pub(crate) fn add_units<N: Node>(
