@@ -1,0 +1,5 @@
+pub mod Plain
+pub mod Texts
+pub mod Limits
+pub mod Chunks
+pub mod Pairs
