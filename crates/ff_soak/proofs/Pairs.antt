@@ -1,5 +1,6 @@
 -- Records of a key and a value: what goes in is such, what the network sends is such, and such records can be written.
 use Rattle.std.proofs.Common.{◌≡◌, ◌≢◌, ℕ, zero, suc, ◌*◌, ◌%◌, Bool, true, false, List, [], ◌∷◌, ◌++◌, length, map, Option, None, Some, ℤ, pos, refl, sym, ap, ◌∙◌, subst, arith}
+use Rattle.std.specs.Prelude.{option_and_then, ◌*ℤ◌}
 use Rattle.std.specs.Cmp.Lexicographic.{slice_cmp}
 use Rattle.std.specs.List.{AllByRecursion}
 use Rattle.std.specs.Ordering.{nat_cmp}
@@ -15,13 +16,12 @@ use Rattle.ff_rec.proofs.WeightLaws.{Same-nil, Same-sym}
 use Rattle.ff_node.specs.Behaviour.{sent_from}
 use Rattle.ff_ops.specs.Entries.{Entry, change_by, changed}
 use Rattle.ff_ops.specs.KeyedOps.{summed, totalled, entries_or, total_of}
-use Rattle.ff_ops.specs.NumberOps.{sent_for}
+use Rattle.ff_ops.specs.NumberOps.{answer_for, becomes, sent_for}
 use Rattle.ff_ops.specs.Operation.{OpState, op_node}
-use Rattle.ff_ops.specs.Rows.{sends_of}
+use Rattle.ff_ops.specs.Rows.{in_range, sends_of}
 use Rattle.ff_ops.specs.declared.family.Family.TheVariants.{Keyed}
 use Rattle.ff_ops.specs.declared.keyed_op.KeyedOp.TheVariants.{TotalBy}
-use Rattle.ff_ops.specs.declared.number_op.answer.Answer.{Answer}
-use Rattle.ff_ops.specs.declared.number_op.answer.Answer.TheVariants.{Nothing, Same as SameRecord, Becomes, Halves}
+use Rattle.ff_ops.specs.declared.number_op.NumberRule.TheVariants.{Mul}
 use Rattle.ff_soak.specs.Records.{soak_record, records_behind, soak_records}
 use Rattle.ff_soak.proofs.Plain.{IsPlain-soak_record}
 use Rattle.ff_soak.specs.Networks.{times_three, same_again, totals, soak_answer}
@@ -70,21 +70,21 @@ pub All-records_behind : (i k : ℕ) → AllByRecursion IsPair (records_behind i
 All-records_behind i zero = tt
 All-records_behind i (suc k) = (IsPair-soak_record (suc i), All-records_behind (suc i) k)
 
--- an operation on the number in the second field leaves the key
-All-sent_for : (key value : List ℕ) → IsPlain key → IsPlain value → (answer : Option Answer)
-    → AllByRecursion IsPair (sends_of (sent_for 2 (key ∷ value ∷ []) answer))
-All-sent_for key value k v None = tt
-All-sent_for key value k v (Some Nothing) = tt
-All-sent_for key value k v (Some SameRecord) = (pair key value k v, tt)
-All-sent_for key value k v (Some (Becomes n)) = (pair key (printed n) k (IsPlain-printed n), tt)
-All-sent_for key value k v (Some (Halves half rest)) =
-    (pair key (printed half) k (IsPlain-printed half), (pair key (printed rest) k (IsPlain-printed rest), tt))
+-- a record of a key and a value, times three where the value is a number
+module _ (key value : List ℕ) (k : IsPlain key) (v : IsPlain value) where
+  All-becomes : (n : Option ℤ) → AllByRecursion IsPair (sends_of (sent_for 2 (key ∷ value ∷ []) (becomes n)))
+  All-becomes None = tt
+  All-becomes (Some n) = (pair key (printed n) k (IsPlain-printed n), tt)
+
+  All-times : (x : Option ℤ) → AllByRecursion IsPair (sends_of (sent_for 2 (key ∷ value ∷ []) (option_and_then (answer_for (Mul (pos 3)) (key ∷ value ∷ [])) x)))
+  All-times None = tt
+  All-times (Some x) = All-becomes (in_range (x *ℤ pos 3))
 
 All-tripled : (xs : List Rec) → AllByRecursion IsPair xs → AllByRecursion IsPair (sent_from op_node times_three xs)
 All-tripled [] h = tt
 All-tripled (x ∷ xs) h =
     All-append IsPair (op_node.sends times_three x) (sent_from op_node times_three xs)
-    (subst (λ (r : Rec). AllByRecursion IsPair (op_node.sends times_three r)) (sym h.0.is) (All-sent_for h.0.key h.0.value h.0.plain_key h.0.plain_value _))
+    (subst (λ (r : Rec). AllByRecursion IsPair (op_node.sends times_three r)) (sym h.0.is) (All-times h.0.key h.0.value h.0.plain_key h.0.plain_value (number h.0.value)))
     (All-tripled xs h.1)
 
 -- each record as it is

@@ -5,6 +5,7 @@ mod fault;
 mod line;
 mod network;
 mod print;
+mod run;
 mod sink;
 mod source;
 mod summary;
@@ -14,4 +15,8 @@ pub use fault::SoakFault;
 pub use line::MOST_RECORDS;
 pub use network::MOST_WORKERS;
 pub use print::print_summary;
+pub use run::soak;
 pub use summary::Summary;
+
+#[cfg(test)]
+mod tests;

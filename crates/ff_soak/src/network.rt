@@ -14,21 +14,28 @@ use std::alloc::Global;
 /// The most workers of a soak.
 pub const MOST_WORKERS: u32 = 16;
 
-// `pipe(farm w rr (mul 2 3), a2a w (id) by 1 w (totalby 1 2))`
-#[tactic(auto, using(ff_net::specs::Tree::tree_forms))]
+// The network, which keeps all rules.
 pub(crate) fn soak_network(alloc: Global, workers: u32) -> Result<Checked<Op>, NoMemory>
     requires some { 1 ≤ workers }
     requires few { workers ≤ MOST_WORKERS }
     ensures { IfOk result (λ checked. tree_of checked.net ≡ soak_net workers) }
 {
+    let net = unchecked(alloc, workers)?;
+    match check(net, Version::Two) {
+        Ok(checked) => Ok(checked),
+        Err(_) => unreachable!(),
+    }
+}
+
+// `pipe(farm w rr (mul 2 3), a2a w (id) by 1 w (totalby 1 2))`
+#[tactic(auto, using(ff_net::specs::Tree::tree_forms))]
+fn unchecked(alloc: Global, workers: u32) -> Result<Net<Op>, NoMemory>
+    ensures { IfOk result (λ net. tree_of net ≡ soak_net workers) }
+{
     let mut parts = Vec::new(alloc);
     parts.push(tripled(alloc, workers)?)?;
     parts.push(totalled(alloc, workers)?)?;
-    match check(Net::Pipe(parts), Version::Two) {
-        Ok(checked) => Ok(checked),
-        // It keeps all rules.
-        Err(_) => unreachable!(),
-    }
+    Ok(Net::Pipe(parts))
 }
 
 // `farm w rr (mul 2 3)`
