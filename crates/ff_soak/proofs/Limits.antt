@@ -1,12 +1,11 @@
 -- The text of the records is within the limits of an input, so it is read to its end, and is read as the records.
-use Rattle.std.proofs.Common.{◌≡◌, ◌⊎◌, ℕ, zero, suc, ◌+◌, ◌*◌, ◌%◌, ◌^◌, ◌<◌, ◌≤◌, Bool, true, false, cond, eqb, List, [], ◌∷◌, ◌++◌, length, Option, None, Some, pos, refl, sym, ap, ◌∙◌, subst, append_assoc, length-append, arith}
+use Rattle.std.proofs.Common.{◌≡◌, ℕ, zero, suc, ◌+◌, ◌*◌, ◌%◌, ◌≤◌, eqb, List, [], ◌∷◌, ◌++◌, length, Option, None, Some, pos, refl, sym, ap, ◌∙◌, subst, append_assoc, length-append, arith}
 use Rattle.std.proofs.lemmas.Bool.{cond_both}
 use Rattle.std.proofs.lemmas.Fmt.{length-decimal-le}
-use Rattle.std.proofs.lemmas.List.{append-nil}
 use Rattle.std.specs.List.{AllByRecursion}
 use Rattle.std.specs.Prelude.{option_map}
 use Rattle.ff_rec.specs.Limits.{IsWithin, limit}
-use Rattle.ff_rec.specs.Lines.{Rec, tabs, joined, line_of, lines, text}
+use Rattle.ff_rec.specs.Lines.{tabs, joined, line_of, lines, text}
 use Rattle.ff_rec.specs.Number.{printed}
 use Rattle.ff_rec.specs.Reading.{Reading, opening, after, next}
 use Rattle.ff_rec.specs.declared.fault.FeedFault.TheVariants.{Line}

@@ -1,5 +1,5 @@
 -- Records of a key and a value: what goes in is such, what the network sends is such, and such records can be written.
-use Rattle.std.proofs.Common.{◌≡◌, ◌≢◌, ℕ, zero, suc, ◌*◌, ◌%◌, Bool, true, false, List, [], ◌∷◌, ◌++◌, length, map, Option, None, Some, ℤ, pos, refl, sym, ap, ◌∙◌, subst, arith}
+use Rattle.std.proofs.Common.{◌≡◌, ℕ, zero, suc, ◌*◌, ◌%◌, List, [], ◌∷◌, ◌++◌, length, map, Option, None, Some, ℤ, pos, refl, sym, ap, subst, arith}
 use Rattle.std.specs.Prelude.{option_and_then, ◌*ℤ◌}
 use Rattle.std.specs.Cmp.Lexicographic.{slice_cmp}
 use Rattle.std.specs.List.{AllByRecursion}
@@ -12,7 +12,6 @@ use Rattle.ff_rec.specs.Number.{number, printed}
 use Rattle.ff_rec.specs.Weights.{Same}
 use Rattle.ff_rec.proofs.Counts.{Same-pick_record}
 use Rattle.ff_rec.proofs.Digits.{IsPlain-printed}
-use Rattle.ff_rec.proofs.WeightLaws.{Same-nil, Same-sym}
 use Rattle.ff_node.specs.Behaviour.{sent_from}
 use Rattle.ff_ops.specs.Entries.{Entry, change_by, changed}
 use Rattle.ff_ops.specs.KeyedOps.{summed, totalled, entries_or, total_of}

@@ -1,7 +1,6 @@
 -- What a run over the records tells: they were all read, and the text that was taken is that of an answer.
-use Rattle.std.proofs.Common.{◌≡◌, ℕ, zero, suc, ◌+◌, ◌*◌, ◌≤◌, Bool, true, false, List, [], ◌∷◌, ◌++◌, length, Option, None, Some, pos, refl, sym, ap, ap₂, ◌∙◌, subst, arith}
+use Rattle.std.proofs.Common.{◌≡◌, ℕ, zero, suc, ◌≤◌, Bool, false, List, ◌++◌, length, Option, None, Some, pos, refl, sym, ap, ap₂, ◌∙◌, subst, arith}
 use Rattle.std.proofs.lemmas.List.{append-nil}
-use Rattle.std.specs.List.{AllByRecursion}
 use Rattle.std.specs.Prelude.{◌-ℤ◌}
 use Rattle.ff_rec.specs.Limits.{limit, seen_by}
 use Rattle.ff_rec.specs.Lines.{Rec, IsRec, records, text}
@@ -27,7 +26,7 @@ use Rattle.ff_stream.specs.declared.ending.Stop.TheVariants.{End, Read, Line}
 use Rattle.ff_soak.specs.Networks.{soak_net, soak_answer}
 use Rattle.ff_soak.specs.Outside.{Making, Held, opened_making, opened_held}
 use Rattle.ff_soak.specs.Records.{records_behind, soak_records}
-use Rattle.ff_soak.specs.Summaries.{summary_of, total_of}
+use Rattle.ff_soak.specs.Summaries.{summary_of}
 use Rattle.ff_soak.specs.declared.summary.Summary.{Summary}
 use Rattle.ff_soak.proofs.Limits.{limit-text, limit-front}
 use Rattle.ff_soak.proofs.Pairs.{IsPair, IsRec-pair, All-Same, All-records_behind, All-soak_answer}

@@ -1,5 +1,5 @@
 -- The text of the records, record by record.
-use Rattle.std.proofs.Common.{◌≡◌, ℕ, suc, ◌+◌, ◌-◌, ◌<◌, List, ◌++◌, sym, ap, ◌∙◌, append_assoc, arith}
+use Rattle.std.proofs.Common.{◌≡◌, ℕ, suc, ◌+◌, ◌-◌, ◌<◌, List, ◌++◌, ap, ◌∙◌, append_assoc, arith}
 use Rattle.ff_rec.specs.Lines.{line_of, text}
 use Rattle.ff_soak.specs.Records.{soak_record, records_behind}
 

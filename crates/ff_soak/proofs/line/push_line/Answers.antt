@@ -1,4 +1,4 @@
-use Rattle.std.proofs.Common.{◌≡◌, ◌*◌, ◌≤◌, length, sym, ◌∙◌, subst, arith}
+use Rattle.std.proofs.Common.{◌*◌, ◌≤◌, length, sym, ◌∙◌, subst, arith}
 use Rattle.ff_soak.proofs.Limits.{length-word, length-number}
 use Rattle.ff_soak.proofs.line.push_line.Goals as goal
 

@@ -1,6 +1,5 @@
-use Rattle.std.proofs.Common.{◌≡◌, None, Err, ap, ◌∙◌}
+use Rattle.std.proofs.Common.{ap, ◌∙◌}
 use Rattle.ff_net.specs.Rules.{first_fault}
-use Rattle.ff_net.specs.Verdict.{fault_in}
 use Rattle.ff_net.specs.declared.net.Version.TheVariants.{Two}
 use Rattle.ff_ops.specs.Operation.{op_node}
 use Rattle.ff_soak.proofs.Nets.{first_fault-soak_net}

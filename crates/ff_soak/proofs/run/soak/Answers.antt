@@ -42,4 +42,4 @@ told-requires g c = λ tasks.
 pub returns-clause-refusals : goal.returns-clause-refusals
 returns-clause-refusals g c =
     c.in-Err.ensures.refusals ∙ refused_count-cause_of Ending Summary (g.S.Refusals.refused c.args.spawner.now) c.in-Err.fault
-    ∙ ap (λ cause. refused_count (g.S.Refusals.refused c.args.spawner.now) (Err cause)) (sym c.told.ensures)
+    ∙ ap (λ cause. refused_count {A = Summary} (g.S.Refusals.refused c.args.spawner.now) (Err cause)) (sym c.told.ensures)
