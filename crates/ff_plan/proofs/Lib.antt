@@ -2,7 +2,7 @@ mod Opens
 mod Totals
 mod Shares
 mod Columns
-mod MeanPlain
+pub mod MeanPlain
 mod LevelsSame
 mod MeanSame
 mod Filters
@@ -13,7 +13,7 @@ mod Single
 mod EdgeLists
 mod Dealing
 mod Masters
-mod FormLaws
+pub mod FormLaws
 mod Sets
 mod Carries
 mod Pipe

@@ -18,9 +18,12 @@ pub mod DrainerRuns
 pub mod Heads
 pub mod UnitsOpened
 pub mod PlanStages
-pub mod StageEnds
+pub mod StageSame
+pub mod Ports
+pub mod OneUnit
 pub mod OverBegins
 pub mod OverEnds
+pub mod OverLists
 pub mod OverWhole
 pub mod OneNode
 pub mod NetWiring
@@ -29,3 +32,10 @@ pub mod NetRuns
 pub mod NetBegins
 pub mod NetEnds
 pub mod NetMade
+pub mod Shapes
+pub mod PutsOpen
+pub mod UnitFits
+pub mod UnitRejects
+pub mod FreshUnits
+pub mod UnitsAlong
+pub mod Times

@@ -3,27 +3,26 @@ use Rattle.std.proofs.Common.{◌≡◌, ℕ, Bool, false, List, [], ◌∷◌, 
 use Rattle.ff_rec.specs.Lines.{Rec}
 use Rattle.ff_rec.specs.Streams.{items}
 use Rattle.ff_node.specs.Behaviour.{Behaviour, KeepsKind}
-use Rattle.ff_node.specs.Classes.{ClassLaw}
-use Rattle.ff_node.specs.Comb.{Part, comb_node}
+use Rattle.ff_net.specs.Good.{Good}
 use Rattle.ff_net.specs.Tree.{Tree}
 use Rattle.ff_plan.specs.PlanLaws.{BeginsAnswer, CutRuns}
 use Rattle.ff_port.specs.Queues.{put_of}
 use Rattle.ff_unit.specs.MessageLaws.{items-append}
-use Rattle.ff_unit.specs.Stage.{StageState}
-use Rattle.ff_unit.specs.StageUnit.{stage_does}
+use Rattle.ff_unit.specs.Units.{IsUnit}
 use Rattle.ff_steps.specs.Core.{CoreState, edge, IsSound}
 use Rattle.ff_steps.specs.NetCores.{IsNetCore, IsGood}
+use Rattle.ff_steps.specs.NetUnits.{NetState, net_does}
 use Rattle.ff_steps.proofs.DrainerRuns.{items-drainer}
 use Rattle.ff_steps.proofs.FeederRuns.{GoesOn-feeder}
 use Rattle.ff_steps.proofs.NetRuns.{RanOver-core, run-feeder, run-drainer}
 use Rattle.ff_steps.proofs.OverBegins.{BeginsAnswer-over}
 use Rattle.ff_steps.proofs.Schedules.{MadeOfSame}
 
-module _ {N : Type 0} (b : Behaviour N) (kind : KeepsKind b) (law : (o : N) → ClassLaw b o (b.class o)) (keep : Bool) (t : Tree N) (cut : (m : ℕ) → CutRuns b m t)
-    (c : CoreState (StageState (List (Part N)))) (is : IsNetCore b keep t c) (sound : IsSound (stage_does (comb_node b)) c) where
+module _ {N : Type 0} (b : Behaviour N) (kind : KeepsKind b) (laws : IsUnit (net_does b)) (keep : Bool) (t : Tree N) (good : Good b t) (cut : (m : ℕ) → CutRuns b m t)
+    (c : CoreState (NetState N)) (is : IsNetCore b keep t c) (sound : IsSound (net_does b) c) where
   BeginsAnswer-core : (m : ℕ) → BeginsAnswer b m t c.input c.drainer.output
   BeginsAnswer-core m =
-      from (BeginsAnswer-over b kind law keep m t is.free (cut m) c.units (λ e. (edge c e).got) (λ e. put_of (edge c e)) (RanOver-core b keep t c is sound) c.input
+      from (BeginsAnswer-over b kind laws keep m t is.free good (cut m) c.units (λ e. (edge c e).got) (λ e. put_of (edge c e)) (RanOver-core b keep t c is sound) c.input
       (GoesOn-feeder c.input c.feeder [] (put_of (edge c 0) ∷ []) (run-feeder b keep t c is sound)))
       (items-drainer c.drainer ((edge c 1).got ∷ []) [] (run-drainer b keep t c is sound))
     where
@@ -42,5 +41,5 @@ module _ {N : Type 0} (b : Behaviour N) (kind : KeepsKind b) (law : (o : N) → 
   IsGood-core = record { sound = sound; begins = BeginsAnswer-core }
 
 -- a core that was made of a network stays so
-pub IsNetCore-made : {N : Type 0} (b : Behaviour N) (keep : Bool) (t : Tree N) (c c' : CoreState (StageState (List (Part N)))) → MadeOfSame c c' → IsNetCore b keep t c → IsNetCore b keep t c'
+pub IsNetCore-made : {N : Type 0} (b : Behaviour N) (keep : Bool) (t : Tree N) (c c' : CoreState (NetState N)) → MadeOfSame c c' → IsNetCore b keep t c → IsNetCore b keep t c'
 IsNetCore-made b keep t c c' same is = record { free = is.free; made = same.0 ∙ is.made; rows = same.2 ∙ is.rows }

@@ -8,35 +8,38 @@ use Rattle.ff_rec.specs.Streams.{IsOpenMsg, items, carried, closed}
 use Rattle.ff_rec.specs.declared.msg.Msg.TheVariants.{Item, Mark, Pick, Eos as EosMsg, Abort as AbortMsg}
 use Rattle.ff_rec.specs.Weights.{Same}
 use Rattle.ff_node.specs.Behaviour.{Behaviour, KeepsKind, node_rejected}
-use Rattle.ff_node.specs.Classes.{ClassLaw}
-use Rattle.ff_node.specs.Comb.{Part, comb_node, running}
+use Rattle.ff_node.specs.Comb.{comb_node, running}
 use Rattle.ff_node.specs.Runs.{Message}
 use Rattle.ff_node.specs.Sends.{counted}
+use Rattle.ff_net.specs.Counts.{units as units_of_all}
+use Rattle.ff_net.specs.Forms.{has_copies}
 use Rattle.ff_net.specs.Good.{Good}
 use Rattle.ff_net.specs.Meaning.{mean_rejected, mean_rejected_count, Answers}
-use Rattle.ff_net.specs.Nodes.{nodes_in, node_groups}
+use Rattle.ff_net.specs.Nodes.{nodes_in}
 use Rattle.ff_net.specs.Tree.{Tree}
+use Rattle.ff_net.proofs.NodeGroups.{length-node_groups}
+use Rattle.ff_plan.specs.Laying.{units_of}
 use Rattle.ff_plan.specs.PlanLaws.{WholeRuns}
 use Rattle.ff_plan.specs.Plans.{rows_of}
-use Rattle.ff_plan.specs.Rows.{Row}
+use Rattle.ff_plan.specs.Rows.{Row, Laid}
+use Rattle.ff_plan.proofs.LaidUnits.{length-rows_of}
 use Rattle.ff_port.specs.Queues.{put_of}
 use Rattle.ff_port.specs.declared.answers.End.{End}
 use Rattle.ff_port.specs.declared.answers.End.TheVariants.{Eos, Abort, Memory}
 use Rattle.ff_unit.specs.MessageLaws.{items-append}
-use Rattle.ff_unit.specs.Stage.{StageState, opening_stage}
-use Rattle.ff_unit.specs.StageUnit.{stage_does}
 use Rattle.ff_unit.specs.Units.{Doing, IsUnit}
 use Rattle.ff_steps.specs.Core.{CoreState, edge, IsSound, all_ended, is_cut_off, is_short, held_rejects, taken_rejects}
 use Rattle.ff_steps.specs.NetCores.{IsNetCore}
+use Rattle.ff_steps.specs.NetUnits.{NetState, net_does}
 use Rattle.ff_steps.specs.OverEdges.{RanAlong, HasAnswered}
+use Rattle.ff_steps.specs.PlanUnits.{opened_unit}
 use Rattle.ff_steps.specs.Parties.{Feeder, Drainer, AsUnit, AsFeeder, AsDrainer, has_ended}
 use Rattle.ff_steps.proofs.DrainerRuns.{IsEnded, items-drainer, IsEnded-drainer}
 use Rattle.ff_steps.proofs.FeederRuns.{at-feeder_done}
 use Rattle.ff_steps.proofs.MessageLists.{items-carried, ended-front}
 use Rattle.ff_steps.proofs.NetRuns.{RanOver-core, run-feeder, run-drainer}
 use Rattle.ff_steps.proofs.OneNode.{one_group, node_rejected-one}
-use Rattle.ff_steps.proofs.StageEnds.{HasEnded}
-use Rattle.ff_steps.proofs.OverBegins.{comb_laws}
+use Rattle.ff_steps.proofs.OverEnds.{HasEndedWell}
 use Rattle.ff_steps.proofs.OverWhole.{HasAnswered-over}
 
 -- an end that is decided and isn't cut off is Eos
@@ -65,36 +68,36 @@ items-end EosMsg end = refl
 items-end AbortMsg end = refl
 
 -- units that have ended, none of them cut off, have ended with their ins
-pub ended-along : {S : Type 0} (b : Behaviour S) → IsUnit (stage_does b) → (got put : ℕ → List Message) (rows : List Row) (units : List (StageState S)) → RanAlong (stage_does b) got put rows units
-    → AllByRecursion (λ u. u.done ≡ true) units → list_any (λ u. u.done && is_cut_off u.fin) units ≡ false → AllByRecursion HasEnded units
-ended-along b laws got put rows [] ran done whole = tt
-ended-along b laws got put [] (u ∷ us) ran done whole = absurd ran
-ended-along b laws got put (row ∷ rows) (u ∷ us) ran done whole =
-    let p : ((u.done && is_cut_off u.fin) ≡ false) × (list_any (λ v. v.done && is_cut_off v.fin) us ≡ false) =
-    or_parts (u.done && is_cut_off u.fin) (list_any (λ v. v.done && is_cut_off v.fin) us) whole in (
-      (done.0, fin-eos u.fin (laws.ends u (map got row.ins) (map put row.outs) ran.0 done.0) (ap (λ d. d && is_cut_off u.fin) (sym done.0) ∙ p.0)),
-      ended-along b laws got put rows us ran.1 done.1 p.1,
+pub ended-along : {U : Type 0} (d : Doing U) → IsUnit d → (got put : ℕ → List Message) (rows : List Row) (units : List U) → RanAlong d got put rows units
+    → AllByRecursion (λ u. d.done u ≡ true) units → list_any (λ u. d.done u && is_cut_off (d.fin u)) units ≡ false → AllByRecursion (HasEndedWell d) units
+ended-along d laws got put rows [] ran done whole = tt
+ended-along d laws got put [] (u ∷ us) ran done whole = absurd ran
+ended-along d laws got put (row ∷ rows) (u ∷ us) ran done whole =
+    let p : ((d.done u && is_cut_off (d.fin u)) ≡ false) × (list_any (λ v. d.done v && is_cut_off (d.fin v)) us ≡ false) =
+    or_parts (d.done u && is_cut_off (d.fin u)) (list_any (λ v. d.done v && is_cut_off (d.fin v)) us) whole in (
+      (done.0, fin-eos (d.fin u) (laws.ends u (map got row.ins) (map put row.outs) ran.0 done.0) (ap (λ x. x && is_cut_off (d.fin u)) (sym done.0) ∙ p.0)),
+      ended-along d laws got put rows us ran.1 done.1 p.1,
     )
 
-module _ {N : Type 0} (b : Behaviour N) (kind : KeepsKind b) (law : (o : N) → ClassLaw b o (b.class o)) (keep : Bool) (t : Tree N) (good : Good b t)
-    (runs : (m : ℕ) → WholeRuns b m t) (c : CoreState (StageState (List (Part N)))) (is : IsNetCore b keep t c) (sound : IsSound (stage_does (comb_node b)) c)
-    (ended : all_ended (stage_does (comb_node b)) c ≡ true) (whole : is_short (stage_does (comb_node b)) c ≡ false) where
-  parts : AllByRecursion (λ u. u.done ≡ true) c.units × ((c.feeder.done ≡ true) × (c.drainer.done ≡ true))
-  parts = ended-parts (stage_does (comb_node b)) c.units c.feeder c.drainer ended
+module _ {N : Type 0} (b : Behaviour N) (kind : KeepsKind b) (laws : IsUnit (net_does b)) (keep : Bool) (t : Tree N) (good : Good b t)
+    (runs : (m : ℕ) → WholeRuns b m t) (c : CoreState (NetState N)) (is : IsNetCore b keep t c) (sound : IsSound (net_does b) c)
+    (ended : all_ended (net_does b) c ≡ true) (whole : is_short (net_does b) c ≡ false) where
+  parts : AllByRecursion (λ u. (net_does b).done u ≡ true) c.units × ((c.feeder.done ≡ true) × (c.drainer.done ≡ true))
+  parts = ended-parts (net_does b) c.units c.feeder c.drainer ended
 
   -- no party was refused memory
-  whole-parts : (list_any (λ u. u.done && is_cut_off u.fin) c.units ≡ false) × ((c.feeder.refused ≡ false) × (c.drainer.refused ≡ false))
+  whole-parts : (list_any (λ u. (net_does b).done u && is_cut_off ((net_does b).fin u)) c.units ≡ false) × ((c.feeder.refused ≡ false) × (c.drainer.refused ≡ false))
   whole-parts =
-      let p : (list_any (λ u. u.done && is_cut_off u.fin) c.units ≡ false) × ((c.feeder.refused || c.drainer.refused) ≡ false) =
-      or_parts (list_any (λ u. u.done && is_cut_off u.fin) c.units) (c.feeder.refused || c.drainer.refused) whole in
+      let p : (list_any (λ u. (net_does b).done u && is_cut_off ((net_does b).fin u)) c.units ≡ false) × ((c.feeder.refused || c.drainer.refused) ≡ false) =
+      or_parts (list_any (λ u. (net_does b).done u && is_cut_off ((net_does b).fin u)) c.units) (c.feeder.refused || c.drainer.refused) whole in
       (p.0, or_parts c.feeder.refused c.drainer.refused p.1)
 
   -- the network was given the whole input, and gave an answer
   pub HasAnswered-core : (m : ℕ) → HasAnswered b m keep t c.input c.units (λ e. put_of (edge c e))
   HasAnswered-core m =
       let over = RanOver-core b keep t c is sound in
-      HasAnswered-over b kind law keep t is.free good c.units (λ e. (edge c e).got) (λ e. put_of (edge c e)) over
-      (ended-along (comb_node b) (comb_laws b kind law keep) (λ e. (edge c e).got) (λ e. put_of (edge c e)) (rows_of t) c.units over.ran parts.0 whole-parts.0) c.input
+      HasAnswered-over b kind laws keep t is.free good c.units (λ e. (edge c e).got) (λ e. put_of (edge c e)) over
+      (ended-along (net_does b) laws (λ e. (edge c e).got) (λ e. put_of (edge c e)) (rows_of t) c.units over.ran parts.0 whole-parts.0) c.input
       (at-feeder_done c.input c.feeder [] (put_of (edge c 0) ∷ []) (run-feeder b keep t c is sound) parts.1.0 whole-parts.1.0) m (runs m)
 
   -- the drainer took all of it
@@ -120,23 +123,25 @@ module _ {N : Type 0} (b : Behaviour N) (kind : KeepsKind b) (law : (o : N) → 
       let a = HasAnswered-core m in
       subst (λ ys. Answers b m t c.input ys) (sym (output-ended a.ys a.carries)) a.answers
 
-  pub number-core : (m : ℕ) → counted (sum_by (λ u. u.rejects) c.units) ≡ mean_rejected_count b m t c.input
+  pub number-core : (m : ℕ) → counted (sum_by (net_does b).rejects c.units) ≡ mean_rejected_count b m t c.input
   number-core m = (HasAnswered-core m).number
 
   pub held-core : (m : ℕ) → keep ≡ true
-      → Same (taken_rejects (stage_does (comb_node b)) c ++ held_rejects (stage_does (comb_node b)) c) (mean_rejected b m t c.input)
+      → Same (taken_rejects (net_does b) c ++ held_rejects (net_does b) c) (mean_rejected b m t c.input)
   held-core m kept = (HasAnswered-core m).kept kept
 
   -- in their order where there is one unit
   pub held_of_one-core : keep ≡ true → length c.units ≡ 1
-      → taken_rejects (stage_does (comb_node b)) c ++ held_rejects (stage_does (comb_node b)) c ≡ node_rejected (comb_node b) (running (map b.opening (nodes_in t))) c.input
+      → taken_rejects (net_does b) c ++ held_rejects (net_does b) c ≡ node_rejected (comb_node b) (running (map b.opening (nodes_in t))) c.input
   held_of_one-core kept one = (HasAnswered-core 0).kept_of_one kept one
 
-  -- and in the network's where there is one node
-  pub held_of_node-core : keep ≡ true → length (nodes_in t) ≡ 1 → (m : ℕ)
-      → taken_rejects (stage_does (comb_node b)) c ++ held_rejects (stage_does (comb_node b)) c ≡ mean_rejected b m t c.input
-  held_of_node-core kept one m =
-      held_of_one-core kept (length-made ∙ one_group b kind t is.free good one) ∙ node_rejected-one b kind t is.free (nodes_in t) refl one m c.input
+  -- and in the network's where there is one node, and no copy of it
+  pub held_of_node-core : keep ≡ true → has_copies t ≡ false → length (nodes_in t) ≡ 1 → (m : ℕ)
+      → taken_rejects (net_does b) c ++ held_rejects (net_does b) c ≡ mean_rejected b m t c.input
+  held_of_node-core kept whole_net one m =
+      held_of_one-core kept (length-made ∙ sym (length-node_groups t whole_net) ∙ one_group b kind t whole_net good one) ∙ node_rejected-one b kind t whole_net (nodes_in t) refl one m c.input
     where
-      length-made : length c.units ≡ length (node_groups t)
-      length-made = sym (length-map c.units (opening_stage (comb_node b))) ∙ ap length (sound.made_of ∙ is.made) ∙ length-map (node_groups t) _
+      length-made : length c.units ≡ units_of_all t
+      length-made =
+          sym (length-map c.units (net_does b).opening) ∙ ap length (sound.made_of ∙ is.made) ∙ length-map (units_of t) (opened_unit b keep)
+          ∙ sym (length-map (units_of t) (λ (l : Laid N). l.row)) ∙ length-rows_of t

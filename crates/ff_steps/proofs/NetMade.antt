@@ -3,26 +3,25 @@ use Rattle.std.proofs.Common.{◌≡◌, ℕ, zero, suc, ◌<◌, ◌≤◌, Boo
 use Rattle.std.proofs.lemmas.List.{length-map, get_or-map}
 use Rattle.ff_rec.specs.Lines.{Rec}
 use Rattle.ff_node.specs.Behaviour.{Behaviour, KeepsKind}
-use Rattle.ff_node.specs.Comb.{Part, comb_node}
-use Rattle.ff_net.proofs.NodeGroups.{length-node_groups}
 use Rattle.ff_net.specs.Counts.{units, edges}
-use Rattle.ff_net.specs.Forms.{has_copies}
+use Rattle.ff_net.specs.Forms.{has_wrap}
+use Rattle.ff_net.specs.Good.{Good}
 use Rattle.ff_net.specs.Limits.{most_units}
-use Rattle.ff_net.specs.Nodes.{node_groups}
 use Rattle.ff_net.specs.Tree.{Tree}
 use Rattle.ff_net.specs.declared.net.Version.{Version}
 use Rattle.ff_net.specs.declared.net.Version.TheVariants.{One, Two}
 use Rattle.ff_plan.specs.declared.kind.Queue.TheVariants.{Ring}
 use Rattle.ff_plan.specs.declared.layout.Edge.{Edge}
+use Rattle.ff_plan.specs.Laying.{units_of}
 use Rattle.ff_plan.specs.Plans.{rows_of, plan_of, edge_of, is_on_demand}
-use Rattle.ff_plan.specs.Rows.{range}
+use Rattle.ff_plan.specs.Rows.{Laid, range}
+use Rattle.ff_plan.proofs.LaidUnits.{length-rows_of}
 use Rattle.ff_plan.specs.WiringLaws.{IsJoined}
 use Rattle.ff_port.specs.Queues.{Queue}
-use Rattle.ff_unit.specs.Stage.{StageState}
-use Rattle.ff_unit.specs.StageUnit.{stage_does}
 use Rattle.ff_steps.specs.Core.{IsSound}
 use Rattle.ff_steps.specs.NetCores.{edge_queues, port_rows, opened_core, opened_net, IsNetCore}
-use Rattle.ff_steps.specs.Units.{opened_units}
+use Rattle.ff_steps.specs.NetUnits.{NetState, net_does}
+use Rattle.ff_steps.specs.PlanUnits.{opened_unit, opened_units}
 use Rattle.ff_steps.specs.Wiring.{Row}
 use Rattle.ff_steps.proofs.NetOpened.{AreEmpty-queues, IsSound-opened, IsNetCore-opened}
 
@@ -50,26 +49,26 @@ few-units : (v : Version) → most_units v ≤ 65536
 few-units One = omega arith
 few-units Two = omega arith
 
-module _ {N : Type 0} (b : Behaviour N) (keep : Bool) (t : Tree N) (free : has_copies t ≡ false) where
-  pub few-opened_units : (v : Version) → units t ≤ most_units v → (us : List (StageState (List (Part N)))) → us ≡ opened_units b keep (node_groups t) → length us ≤ 65536
+module _ {N : Type 0} (b : Behaviour N) (keep : Bool) (t : Tree N) (free : has_wrap t ≡ false) where
+  pub few-opened_units : (v : Version) → units t ≤ most_units v → (us : List (NetState N)) → us ≡ opened_units b keep t → length us ≤ 65536
   few-opened_units v within us are =
-      omega (arith, few-units v, within, length-node_groups t free, ap length are ∙ length-map (node_groups t) _)
+      omega (arith, few-units v, within, length-rows_of t, length-map (units_of t) (λ (l : Laid N). l.row), ap length are ∙ length-map (units_of t) (opened_unit b keep))
 
   -- the core of parts that are those of a network
-  pub opened_core-net : (cap : ℕ) (us : List (StageState (List (Part N)))) (rows : List Row) (queues : List (Queue Rec)) (input : List Rec)
-      → us ≡ opened_units b keep (node_groups t) → rows ≡ port_rows t → queues ≡ edge_queues (plan_of t cap Ring).edges
-      → opened_core (stage_does (comb_node b)) us rows queues input ≡ opened_net b keep t cap input
+  pub opened_core-net : (cap : ℕ) (us : List (NetState N)) (rows : List Row) (queues : List (Queue Rec)) (input : List Rec)
+      → us ≡ opened_units b keep t → rows ≡ port_rows t → queues ≡ edge_queues (plan_of t cap Ring).edges
+      → opened_core (net_does b) us rows queues input ≡ opened_net b keep t cap input
   opened_core-net cap us rows queues input units_are rows_are queues_are =
-      ap (λ x. opened_core (stage_does (comb_node b)) x rows queues input) units_are
-      ∙ ap (λ x. opened_core (stage_does (comb_node b)) (opened_units b keep (node_groups t)) x queues input) rows_are
-      ∙ ap (λ x. opened_core (stage_does (comb_node b)) (opened_units b keep (node_groups t)) (port_rows t) x input) queues_are
+      ap (λ x. opened_core (net_does b) x rows queues input) units_are
+      ∙ ap (λ x. opened_core (net_does b) (opened_units b keep t) x queues input) rows_are
+      ∙ ap (λ x. opened_core (net_does b) (opened_units b keep t) (port_rows t) x input) queues_are
 
-  module _ (kind : KeepsKind b) (joined : IsJoined t) (cap : ℕ) (input : List Rec) where
+  module _ (kind : KeepsKind b) (good : Good b t) (joined : IsJoined t) (cap : ℕ) (input : List Rec) where
     length-queues : length (edge_queues (plan_of t cap Ring).edges) ≡ edges t
     length-queues = length-map (plan_of t cap Ring).edges _ ∙ length-map (range 0 (edges t)) (edge_of (rows_of t) cap Ring) ∙ length-range 0 (edges t)
 
-    pub IsSound-net : IsSound (stage_does (comb_node b)) (opened_net b keep t cap input)
-    IsSound-net = IsSound-opened b kind keep t free joined (edge_queues (plan_of t cap Ring).edges) (AreEmpty-queues (plan_of t cap Ring).edges) length-queues input
+    pub IsSound-net : IsSound (net_does b) (opened_net b keep t cap input)
+    IsSound-net = IsSound-opened b kind keep t free good joined (edge_queues (plan_of t cap Ring).edges) (AreEmpty-queues (plan_of t cap Ring).edges) length-queues input
 
     pub IsNetCore-net : IsNetCore b keep t (opened_net b keep t cap input)
-    IsNetCore-net = IsNetCore-opened b kind keep t free joined (edge_queues (plan_of t cap Ring).edges) (AreEmpty-queues (plan_of t cap Ring).edges) length-queues input
+    IsNetCore-net = IsNetCore-opened b kind keep t free good joined (edge_queues (plan_of t cap Ring).edges) (AreEmpty-queues (plan_of t cap Ring).edges) length-queues input

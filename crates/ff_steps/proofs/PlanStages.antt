@@ -28,14 +28,10 @@ AreStages [] (g ∷ groups) = ⊥
 AreStages (l ∷ ls) [] = ⊥
 AreStages (l ∷ ls) (g ∷ groups) = IsStageOf l g × AreStages ls groups
 
--- what is so of each edge that one of these units reads, and of each that one writes
+-- what is so of each edge that one of these units reads
 abbrev pub OnIns : {N : Type 0} → (ℕ → Type 0) → List (Laid N) → Type 0
 OnIns P [] = Unit {0}
 OnIns P (l ∷ ls) = AllByRecursion P l.row.ins × OnIns P ls
-
-abbrev pub OnOuts : {N : Type 0} → (ℕ → Type 0) → List (Laid N) → Type 0
-OnOuts P [] = Unit {0}
-OnOuts P (l ∷ ls) = AllByRecursion P l.row.outs × OnOuts P ls
 
 module _ {N : Type 0} where
   AreStages-append : (ls ks : List (Laid N)) (gs hs : List (List N)) → AreStages ls gs → AreStages ks hs → AreStages (ls ++ ks) (gs ++ hs)
@@ -47,10 +43,6 @@ module _ {N : Type 0} where
   OnIns-front : (P : ℕ → Type 0) (ls ks : List (Laid N)) → OnIns P (ls ++ ks) → OnIns P ls
   OnIns-front P [] ks on = tt
   OnIns-front P (l ∷ ls) ks on = (on.0, OnIns-front P ls ks on.1)
-
-  OnOuts-back : (P : ℕ → Type 0) (ls ks : List (Laid N)) → OnOuts P (ls ++ ks) → OnOuts P ks
-  OnOuts-back P [] ks on = on
-  OnOuts-back P (l ∷ ls) ks on = OnOuts-back P ls ks on.1
 
   mutual
     pub AreStages-lay : (at : List ℕ) (t : Tree N) (i o e : ℕ) → has_copies t ≡ false → AreStages (lay at t i o e) (node_groups t)
@@ -92,23 +84,3 @@ module _ {N : Type 0} where
           let both = or-false (has_copies t) (any_copies (more u us)) whole in
           OnIns-lay P (child at k) t i j e both.0 good.0
           (OnIns-front P (lay (child at k) t i j e) (lay_parts at (k + 1) (more u us) j o (suc j) (e + inner_edges t)) on)
-
-    mutual
-      -- and one writes the edge that the network writes
-      pub OnOuts-lay : (P : ℕ → Type 0) (at : List ℕ) (t : Tree N) (i o e : ℕ) → has_copies t ≡ false → Good b t → OnOuts P (lay at t i o e) → P o
-      OnOuts-lay P at (Leaf n) i o e whole good on = on.0.0
-      OnOuts-lay P at (Pipe ts) i o e whole good on = OnOuts-parts P at 1 ts i o e (e + (count ts - 1)) whole good.0.0 good.1 on
-      OnOuts-lay P at (Comb ts) i o e whole good on = on.0.0
-      OnOuts-lay P at (Farm n s w) i o e whole good on = absurd (true≢false whole)
-      OnOuts-lay P at (OFarm n s w) i o e whole good on = absurd (true≢false whole)
-      OnOuts-lay P at (A2a n l r m t) i o e whole good on = absurd (true≢false whole)
-      OnOuts-lay P at (Wrap n w p) i o e whole good on = absurd (true≢false whole)
-
-      OnOuts-parts : (P : ℕ → Type 0) (at : List ℕ) (k : ℕ) (ts : Trees N) (i o j e : ℕ) → any_copies ts ≡ false → 1 ≤ count ts → GoodParts b ts → OnOuts P (lay_parts at k ts i o j e) → P o
-      OnOuts-parts P at k none i o j e whole some good on = absurd (omega (arith, some))
-      OnOuts-parts P at k (more t none) i o j e whole some good on =
-          let both = or-false (has_copies t) false whole in OnOuts-lay P (child at k) t i o e both.0 good.0 on
-      OnOuts-parts P at k (more t (more u us)) i o j e whole some good on =
-          let both = or-false (has_copies t) (any_copies (more u us)) whole in
-          OnOuts-parts P at (k + 1) (more u us) j o (suc j) (e + inner_edges t) both.1 (omega arith) good.1
-          (OnOuts-back P (lay (child at k) t i j e) (lay_parts at (k + 1) (more u us) j o (suc j) (e + inner_edges t)) on)

@@ -1,30 +1,30 @@
 -- The units of a network before their first steps.
-use Rattle.std.proofs.Common.{◌≡◌, Bool, true, List, [], ◌∷◌, length, map, refl, sym, ap, arith}
-use Rattle.std.specs.List.{All}
+use Rattle.std.proofs.Common.{◌≡◌, Bool, true, false, List, [], ◌∷◌, length, map, arith}
+use Rattle.std.specs.List.{All, AllByRecursion}
 use Rattle.std.proofs.lemmas.List.Elements.{All-nil, All-cons}
 use Rattle.ff_node.specs.Behaviour.{Behaviour, KeepsKind}
-use Rattle.ff_node.specs.Comb.{comb_node, running}
-use Rattle.ff_node.specs.CombKindLaws.{comb_keeps_kind}
 use Rattle.ff_net.proofs.NodeGroups.{InRange-node_groups}
+use Rattle.ff_net.specs.Forms.{has_wrap}
 use Rattle.ff_net.specs.Good.{Good, InRange}
 use Rattle.ff_net.specs.Nodes.{nodes_in}
 use Rattle.ff_net.specs.RuleTests.{is_node}
 use Rattle.ff_net.specs.Tree.{Tree, Leaf, Pipe, Comb, Farm, OFarm, A2a, Wrap}
-use Rattle.ff_unit.specs.Stage.{started, opened_stage}
-use Rattle.ff_unit.specs.StageUnit.{stage_does}
-use Rattle.ff_unit.specs.Units.{Ran}
-use Rattle.ff_steps.specs.Units.{opened_units}
+use Rattle.ff_plan.specs.Laying.{units_of}
+use Rattle.ff_plan.specs.Rows.{Laid}
+use Rattle.ff_steps.specs.NetUnits.{net_does}
+use Rattle.ff_steps.specs.PlanUnits.{opened_unit, opened_units, IsUnrun}
+use Rattle.ff_steps.proofs.FreshUnits.{IsUnrun-kind}
+use Rattle.ff_steps.proofs.Shapes.{HasShape, shapes-lay}
 
--- a stage that made no step took and put nothing
-Ran-opened : {N : Type 0} (b : Behaviour N) → KeepsKind b → (n : N) (keep : Bool) → Ran (stage_does b) (opened_stage b n keep) ([] ∷ []) ([] ∷ [])
-Ran-opened b kind n keep = (tt, record { acts = []; leads = ap (λ m. started m keep) (sym (kind.opening_of_opening n)); takes = refl; gives = refl })
+-- no unit made a step
+module _ {N : Type 0} (b : Behaviour N) (kind : KeepsKind b) (keep : Bool) where
+  unrun-laid : (ls : List (Laid N)) → AllByRecursion HasShape ls → All (IsUnrun (net_does b)) (map (opened_unit b keep) ls)
+  unrun-laid [] shapes = All-nil (IsUnrun (net_does b))
+  unrun-laid (l ∷ ls) shapes = All-cons (IsUnrun (net_does b)) (opened_unit b keep l) (map (opened_unit b keep) ls)
+      (IsUnrun-kind b kind keep l.row.kind l.net (length l.row.ins) (length l.row.outs) shapes.0) (unrun-laid ls shapes.1)
 
-pub Ran-opened_units : {N : Type 0} (b : Behaviour N) → KeepsKind b → (keep : Bool) (groups : List (List N))
-    → All (λ u. Ran (stage_does (comb_node b)) u ([] ∷ []) ([] ∷ [])) (opened_units b keep groups)
-Ran-opened_units b kind keep [] = All-nil (λ u. Ran (stage_does (comb_node b)) u ([] ∷ []) ([] ∷ []))
-Ran-opened_units b kind keep (g ∷ groups) = All-cons (λ u. Ran (stage_does (comb_node b)) u ([] ∷ []) ([] ∷ []))
-    (opened_stage (comb_node b) (running (map b.opening g)) keep) (opened_units b keep groups)
-    (Ran-opened (comb_node b) (comb_keeps_kind b kind) (running (map b.opening g)) keep) (Ran-opened_units b kind keep groups)
+  pub unrun-opened_units : (t : Tree N) → has_wrap t ≡ false → Good b t → All (IsUnrun (net_does b)) (opened_units b keep t)
+  unrun-opened_units t free good = unrun-laid (units_of t) (shapes-lay b t free good [] 0 1 2)
 
 -- a leaf or a comb has as many nodes as a unit takes
 pub InRange-nodes_in : {N : Type 0} (b : Behaviour N) (t : Tree N) → Good b t → is_node t ≡ true → InRange (length (nodes_in t))

@@ -2,9 +2,7 @@
 use Rattle.std.specs.Prelude.{◌≡◌, ℕ, Bool, false, List, map}
 use Rattle.ff_rec.specs.Lines.{Rec}
 use Rattle.ff_node.specs.Behaviour.{Behaviour}
-use Rattle.ff_node.specs.Comb.{Part, comb_node}
-use Rattle.ff_net.specs.Forms.{has_copies}
-use Rattle.ff_net.specs.Nodes.{node_groups}
+use Rattle.ff_net.specs.Forms.{has_wrap}
 use Rattle.ff_net.specs.Tree.{Tree}
 use Rattle.ff_plan.specs.declared.kind.Queue.TheVariants.{Ring}
 use Rattle.ff_plan.specs.declared.layout.Edge.{Edge}
@@ -12,12 +10,11 @@ use Rattle.ff_plan.specs.PlanLaws.{BeginsAnswer}
 use Rattle.ff_plan.specs.Plans.{rows_of, plan_of}
 use Rattle.ff_plan.specs.Rows.{Row as PlanRow}
 use Rattle.ff_port.specs.Queues.{Queue, empty_queue}
-use Rattle.ff_unit.specs.Stage.{StageState}
-use Rattle.ff_unit.specs.StageUnit.{stage_does}
 use Rattle.ff_unit.specs.Units.{Doing}
 use Rattle.ff_steps.specs.Core.{CoreState, IsSound}
+use Rattle.ff_steps.specs.NetUnits.{NetState, net_does}
 use Rattle.ff_steps.specs.Parties.{opening_feeder, opening_drainer}
-use Rattle.ff_steps.specs.Units.{opened_units}
+use Rattle.ff_steps.specs.PlanUnits.{opened_units}
 use Rattle.ff_steps.specs.Wiring.{Row, all_rows}
 
 -- the edges that a unit of a plan reads and those that it writes
@@ -45,17 +42,17 @@ opened_core d units rows edges input = record {
 }
 
 -- a core of the units of a network before its first event
-abbrev pub opened_net : {N : Type 0} → Behaviour N → Bool → Tree N → ℕ → List Rec → CoreState (StageState (List (Part N)))
+abbrev pub opened_net : {N : Type 0} → Behaviour N → Bool → Tree N → ℕ → List Rec → CoreState (NetState N)
 opened_net b keep t cap input =
-    opened_core (stage_does (comb_node b)) (opened_units b keep (node_groups t)) (port_rows t) (edge_queues (plan_of t cap Ring).edges) input
+    opened_core (net_does b) (opened_units b keep t) (port_rows t) (edge_queues (plan_of t cap Ring).edges) input
 
 -- the core was made of this network
-pub record IsNetCore {N : Type 0} (b : Behaviour N) (keep : Bool) (t : Tree N) (c : CoreState (StageState (List (Part N)))) : Type 0 where
-  pub free : has_copies t ≡ false
-  pub made : c.made ≡ opened_units b keep (node_groups t)
+pub record IsNetCore {N : Type 0} (b : Behaviour N) (keep : Bool) (t : Tree N) (c : CoreState (NetState N)) : Type 0 where
+  pub free : has_wrap t ≡ false
+  pub made : c.made ≡ opened_units b keep t
   pub rows : c.rows ≡ all_rows (port_rows t)
 
 -- a good moment of the core of a network: each party is reached by its own steps, and the output is the first of an answer
-pub record IsGood {N : Type 0} (b : Behaviour N) (t : Tree N) (c : CoreState (StageState (List (Part N)))) : Type 0 where
-  pub sound : IsSound (stage_does (comb_node b)) c
+pub record IsGood {N : Type 0} (b : Behaviour N) (t : Tree N) (c : CoreState (NetState N)) : Type 0 where
+  pub sound : IsSound (net_does b) c
   pub begins : (m : ℕ) → BeginsAnswer b m t c.input c.drainer.output

@@ -5,18 +5,17 @@ use Rattle.ff_rec.specs.Lines.{Rec}
 use Rattle.ff_rec.specs.Streams.{carried, closed}
 use Rattle.ff_rec.specs.Weights.{Same}
 use Rattle.ff_node.specs.Behaviour.{Behaviour, node_rejected}
-use Rattle.ff_node.specs.Comb.{Part, comb_node, running}
+use Rattle.ff_node.specs.Comb.{comb_node, running}
 use Rattle.ff_node.specs.Runs.{Message}
 use Rattle.ff_node.specs.Sends.{counted}
 use Rattle.ff_net.specs.Meaning.{mean_rejected, mean_rejected_count, Answers}
-use Rattle.ff_net.specs.Nodes.{nodes_in, node_groups}
+use Rattle.ff_net.specs.Nodes.{nodes_in}
 use Rattle.ff_net.specs.Tree.{Tree}
 use Rattle.ff_plan.specs.Plans.{rows_of}
 use Rattle.ff_plan.specs.Rows.{Row}
-use Rattle.ff_unit.specs.Stage.{StageState, opening_stage}
-use Rattle.ff_unit.specs.StageUnit.{stage_does}
 use Rattle.ff_unit.specs.Units.{Doing, Ran}
-use Rattle.ff_steps.specs.Units.{opened_units}
+use Rattle.ff_steps.specs.NetUnits.{NetState, net_does}
+use Rattle.ff_steps.specs.PlanUnits.{opened_units}
 
 -- each unit is reached by its own steps, which took what was got from the edges of its ins and put what was put on those of its outs
 abbrev pub RanAlong : {U : Type 0} → Doing U → (ℕ → List Message) → (ℕ → List Message) → List Row → List U → Type 0
@@ -25,21 +24,22 @@ RanAlong d got put [] (u ∷ units) = ⊥
 RanAlong d got put (row ∷ rows) [] = ⊥
 RanAlong d got put (row ∷ rows) (u ∷ units) = Ran d u (map got row.ins) (map put row.outs) × RanAlong d got put rows units
 
--- the units of a network without copies, with what was got from each edge of its plan and what was put on it
-pub record RanOver {N : Type 0} (b : Behaviour N) (keep : Bool) (t : Tree N) (units : List (StageState (List (Part N)))) (got put : ℕ → List Message) : Type 0 where
+-- the units of a network without a wrap, with what was got from each edge of its plan and what was put on it
+pub record RanOver {N : Type 0} (b : Behaviour N) (keep : Bool) (t : Tree N) (units : List (NetState N)) (got put : ℕ → List Message) : Type 0 where
   -- what they were before their first steps
-  pub made : map (opening_stage (comb_node b)) units ≡ opened_units b keep (node_groups t)
+  pub made : map (net_does b).opening units ≡ opened_units b keep t
   -- what was got is the first of what was put
   pub first : (e : ℕ) → (rest : List Message) × (put e ≡ got e ++ rest)
-  pub ran : RanAlong (stage_does (comb_node b)) got put (rows_of t) units
+  pub ran : RanAlong (net_does b) got put (rows_of t) units
 
 -- all units have ended with their ins: the last edge carries an answer, and they rejected what the network rejects
-pub record HasAnswered {N : Type 0} (b : Behaviour N) (m : ℕ) (keep : Bool) (t : Tree N) (xs : List Rec) (units : List (StageState (List (Part N)))) (put : ℕ → List Message) : Type 0 where
+pub record HasAnswered {N : Type 0} (b : Behaviour N) (m : ℕ) (keep : Bool) (t : Tree N) (xs : List Rec) (units : List (NetState N)) (put : ℕ → List Message) : Type 0 where
   pub ys : List Rec
   pub carries : put 1 ≡ closed (carried ys)
   pub answers : Answers b m t xs ys
-  pub number : counted (sum_by (λ u. u.rejects) units) ≡ mean_rejected_count b m t xs
+  pub number : counted (sum_by (net_does b).rejects units) ≡ mean_rejected_count b m t xs
   -- those taken out with those held, where they are kept; a unit alone has them in their order
-  pub kept : keep ≡ true → Same (flat_map (λ u. u.taken) units ++ flat_map (λ u. u.kept) units) (mean_rejected b m t xs)
-  pub kept_of_one : keep ≡ true → length units ≡ 1 → flat_map (λ u. u.taken) units ++ flat_map (λ u. u.kept) units ≡ node_rejected (comb_node b) (running (map b.opening (nodes_in t))) xs
-  pub none : keep ≡ false → flat_map (λ u. u.kept) units ≡ []
+  pub kept : keep ≡ true → Same (flat_map (net_does b).taken units ++ flat_map (net_does b).kept units) (mean_rejected b m t xs)
+  pub kept_of_one : keep ≡ true → length units ≡ 1
+      → flat_map (net_does b).taken units ++ flat_map (net_does b).kept units ≡ node_rejected (comb_node b) (running (map b.opening (nodes_in t))) xs
+  pub none : keep ≡ false → flat_map (net_does b).kept units ≡ []

@@ -1,11 +1,15 @@
 //! The core: units over plain queues, stepped one at a time on one thread, in any order.
 #![tactic(auto)]
 
+mod copies;
 mod core_step;
 mod drainer;
 mod ends;
 mod feeder;
+mod kinds;
+mod middle;
 mod net_core;
+mod net_unit;
 mod network;
 mod opening;
 mod rejects;
@@ -15,8 +19,9 @@ mod schedule;
 mod unit_step;
 mod units;
 
+pub use net_unit::NetUnit;
 pub use network::NetCore;
-pub use units::{NetUnit, make_units};
+pub use units::make_units;
 
 #[cfg(test)]
 mod tests;

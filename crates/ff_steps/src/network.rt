@@ -4,7 +4,7 @@ ghost use Rattle.ff_rec.specs.Weights.{Same};
 ghost use Rattle.ff_node.specs.Behaviour.{node_rejected};
 ghost use Rattle.ff_node.specs.Comb.{comb_node};
 ghost use Rattle.ff_node.specs.Sends.{counted};
-ghost use Rattle.ff_net.specs.Forms.{has_copies};
+ghost use Rattle.ff_net.specs.Forms.{has_copies, has_wrap};
 ghost use Rattle.ff_net.specs.Meaning.{mean_rejected, mean_rejected_count, Answers};
 ghost use Rattle.ff_net.specs.Nodes.{nodes_in};
 ghost use Rattle.ff_net.specs.Tree.{tree_of};
@@ -12,8 +12,8 @@ ghost use Rattle.ff_plan.specs.Histories.{group_of};
 ghost use Rattle.ff_steps.specs.Core.{is_short, all_ended, taken_rejects, all_rejects, IsSound};
 ghost use Rattle.ff_steps.specs.Events.{Follows};
 ghost use Rattle.ff_steps.specs.NetCores.{opened_net, IsGood, IsNetCore};
+ghost use Rattle.ff_steps.specs.NetUnits.{net_does};
 ghost use Rattle.ff_steps.specs.Rejects.{Hands};
-ghost use Rattle.ff_steps.specs.Units.{net_does};
 
 use crate::NetUnit;
 use crate::net_core::Core;
@@ -39,7 +39,7 @@ pub struct NetCore<N: Node> {
 }
 
 impl<N: Node> NetCore<N> {
-    /// A network without copies before its first event. Each queue holds `cap` messages, and where records are handed out on
+    /// A network without a wrap before its first event. Each queue holds `cap` messages, and where records are handed out on
     /// demand one. The units keep their rejects where `keep` holds.
     pub fn new(
         alloc: Global,
@@ -48,7 +48,7 @@ impl<N: Node> NetCore<N> {
         keep: bool,
         input: Records,
     ) -> Result<NetCore<N>, NoMemory>
-        requires free { has_copies (tree_of checked.net) ≡ false }
+        requires free { has_wrap (tree_of checked.net) ≡ false }
         requires low { 1 ≤ cap }
         requires high { cap ≤ 4096 }
         ensures opened { IfOk result (λ c. c.core
@@ -86,7 +86,7 @@ impl<N: Node> NetCore<N> {
             → (m : ℕ) → Answers N.does m (tree_of self.new.checked.net)
             self.new.core.input self.new.core.drainer.output }
         ensures rejects { result ≡ true → is_short (net_does N.does) self.new.core ≡ false
-            → (m : ℕ) → counted (sum_by (λ u. u.rejects) self.new.core.units)
+            → (m : ℕ) → counted (sum_by (net_does N.does).rejects self.new.core.units)
             ≡ mean_rejected_count N.does m (tree_of self.new.checked.net) self.new.core.input }
         ensures held { result ≡ true → is_short (net_does N.does) self.new.core ≡ false
             → self.new.keep ≡ true → (m : ℕ) → Same (all_rejects (net_does N.does) self.new.core)
@@ -97,7 +97,8 @@ impl<N: Node> NetCore<N> {
             ≡ node_rejected (comb_node N.does)
             (group_of N.does (tree_of self.new.checked.net)) self.new.core.input }
         ensures held_of_node { result ≡ true → is_short (net_does N.does) self.new.core ≡ false
-            → self.new.keep ≡ true → length (nodes_in (tree_of self.new.checked.net)) ≡ 1
+            → self.new.keep ≡ true → has_copies (tree_of self.new.checked.net) ≡ false
+            → length (nodes_in (tree_of self.new.checked.net)) ≡ 1
             → (m : ℕ) → all_rejects (net_does N.does) self.new.core
             ≡ mean_rejected N.does m (tree_of self.new.checked.net) self.new.core.input }
     {
@@ -130,7 +131,7 @@ impl<N: Node> NetCore<N> {
 
     /// How many records the units rejected, up to 2^64 - 1.
     pub fn rejected(&self) -> u64
-        ensures { result ≡ counted (sum_by (λ u. u.rejects) self.now.core.units) }
+        ensures { result ≡ counted (sum_by (net_does N.does).rejects self.now.core.units) }
     {
         self.core.rejected()
     }

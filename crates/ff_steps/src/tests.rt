@@ -1,6 +1,9 @@
 // What no clause says: that memory is there, and that a schedule does its work.
+mod core_rows;
 mod narrow;
 mod schedules;
+mod seen;
+mod sieve;
 mod stages;
 mod units;
 
@@ -96,7 +99,7 @@ fn opened<N: Node>(
     input: &str,
 ) -> Result<NetCore<N>, Fail> {
     let checked = check(net, Version::Two).ok().ok_or("refused")?;
-    assert!(rt; !checked.has_copies());
+    assert!(rt; !checked.has_wrap());
     assert!(rt; 1 <= cap && cap <= 4096);
     let input = records(alloc, input)?;
     Ok(NetCore::new(alloc, checked, cap, true, input)?)

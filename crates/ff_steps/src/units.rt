@@ -1,16 +1,15 @@
-// The units of a network without copies.
-ghost use Rattle.std.specs.Prelude.{◌≡◌, ◌++◌, [], ◌∷◌, map, true, false, All, IfOk, OnOk};
-ghost use Rattle.ff_net.specs.Forms.{has_copies};
+// The units of a network without a wrap.
+ghost use Rattle.std.specs.Prelude.{◌≡◌, ◌++◌, [], ◌∷◌, true, false, All, IfOk, OnOk};
+ghost use Rattle.ff_net.specs.Forms.{has_wrap};
 ghost use Rattle.ff_net.specs.Good.{Good, GoodParts};
-ghost use Rattle.ff_net.specs.Nodes.{nodes_in, node_groups, groups_through};
 ghost use Rattle.ff_net.specs.RuleTests.{is_node};
 ghost use Rattle.ff_net.specs.Tree.{tree_of, trees_of};
-ghost use Rattle.ff_node.specs.Comb.{comb_node, running};
-ghost use Rattle.ff_steps.specs.Units.{opened_units};
-ghost use Rattle.ff_unit.specs.Stage.{opened_stage};
-ghost use Rattle.ff_unit.specs.StageUnit.{stage_does};
-ghost use Rattle.ff_unit.specs.Units.{Ran};
+ghost use Rattle.ff_steps.specs.NetUnits.{net_does};
+ghost use Rattle.ff_steps.specs.PlanUnits.{opened_units, units_in, units_through, stage_unit, IsUnrun};
 
+use crate::NetUnit;
+use crate::copies::{add_farm, add_left_set, add_ofarm, add_right_set};
+use crate::middle::add_middle;
 use ff_net::laws::checked_networks_are_good;
 use ff_net::{Checked, Net};
 use ff_node::{Comb, Node};
@@ -18,20 +17,16 @@ use ff_rec::NoMemory;
 use ff_unit::Stage;
 use std::alloc::Global;
 
-/// The unit of a leaf or of a comb: a stage. A leaf runs as the comb of its one node.
-pub type NetUnit<N> = Stage<Comb<N>>;
-
-/// The units of a network without copies, one behind another, each before its first step.
+/// The units of a network without a wrap, in the order of its plan, each before its first step.
 pub fn make_units<N: Node>(
     alloc: Global,
     checked: &Checked<N>,
     keep: bool,
 ) -> Result<Vec<NetUnit<N>>, NoMemory>
-    requires { has_copies (tree_of checked.now.net) ≡ false }
+    requires { has_wrap (tree_of checked.now.net) ≡ false }
     ensures units { IfOk result (λ units. units.items
-        ≡ opened_units N.does keep (node_groups (tree_of checked.now.net))) }
-    ensures ran { IfOk result (λ units. All (λ u. Ran (stage_does (comb_node N.does)) u
-        ([] ∷ []) ([] ∷ [])) units.items) }
+        ≡ opened_units N.does keep (tree_of checked.now.net)) }
+    ensures unrun { IfOk result (λ units. All (IsUnrun (net_does N.does)) units.items) }
 {
     checked_networks_are_good(checked);
     let mut units = Vec::new(alloc);
@@ -39,10 +34,10 @@ pub fn make_units<N: Node>(
     Ok(units)
 }
 
-// Adds the units of a network to these.
+// Adds the units of a network to these. Those of a wrap aren't made here.
 #[cycle(units)]
 #[tactic(auto, using(ff_net::proofs::NodeLists::node_lists))]
-fn add_units<N: Node>(
+pub(crate) fn add_units<N: Node>(
     alloc: Global,
     net: &Net<N>,
     keep: bool,
@@ -50,15 +45,33 @@ fn add_units<N: Node>(
 ) -> Result<(), NoMemory>
     requires { Good N.does (tree_of net.now) }
     ensures { OnOk result (units.new.items
-        ≡ units.old.items ++ opened_units N.does keep (node_groups (tree_of net.now))) }
+        ≡ units.old.items ++ units_in N.does keep (tree_of net.now)) }
 {
     match net {
-        Net::Leaf(_) | Net::Comb(_) => {
-            units.push(make_unit(alloc, net, keep)?)?;
-            Ok(())
-        }
+        Net::Leaf(_) | Net::Comb(_) => add_stage(alloc, net, keep, units),
         Net::Pipe(parts) => add_parts(alloc, parts, keep, units),
-        Net::Farm { .. } | Net::OFarm { .. } | Net::A2a { .. } | Net::Wrap { .. } => Ok(()),
+        Net::Farm {
+            workers,
+            sched,
+            worker,
+        } => add_farm(alloc, *workers, *sched, worker, keep, units),
+        Net::OFarm {
+            workers,
+            sched,
+            worker,
+        } => add_ofarm(alloc, *workers, *sched, worker, keep, units),
+        Net::A2a {
+            left,
+            left_node,
+            route,
+            right,
+            right_node,
+        } => {
+            add_left_set(alloc, *left, left_node, keep, units)?;
+            add_middle(*left, *route, *right, units)?;
+            add_right_set(alloc, *right, right_node, keep, units)
+        }
+        Net::Wrap { .. } => Ok(()),
     }
 }
 
@@ -73,7 +86,7 @@ fn add_parts<N: Node>(
 ) -> Result<(), NoMemory>
     requires { GoodParts N.does (trees_of parts.now) }
     ensures { OnOk result (units.new.items
-        ≡ units.old.items ++ opened_units N.does keep (groups_through (trees_of parts.now))) }
+        ≡ units.old.items ++ units_through N.does keep (trees_of parts.now)) }
 {
     for part in parts {
         add_units(alloc, part, keep, units)?;
@@ -81,13 +94,20 @@ fn add_parts<N: Node>(
     Ok(())
 }
 
-// The unit of a leaf or of a comb.
-fn make_unit<N: Node>(alloc: Global, net: &Net<N>, keep: bool) -> Result<NetUnit<N>, NoMemory>
+// Adds the stage of a leaf or of a comb.
+fn add_stage<N: Node>(
+    alloc: Global,
+    net: &Net<N>,
+    keep: bool,
+    units: &mut Vec<NetUnit<N>>,
+) -> Result<(), NoMemory>
     requires good { Good N.does (tree_of net.now) }
     requires node { is_node (tree_of net.now) ≡ true }
-    ensures { IfOk result (λ unit. unit ≡ opened_stage (comb_node N.does)
-        (running (map N.does.opening (nodes_in (tree_of net.now)))) keep) }
+    ensures { OnOk result (units.new.items
+        ≡ units.old.items ++ stage_unit N.does keep (tree_of net.now) ∷ []) }
 {
     let nodes = net.nodes(alloc)?;
-    Ok(Stage::new(alloc, Comb::new(nodes), keep))
+    let stage = Stage::new(alloc, Comb::new(nodes), keep);
+    units.push(NetUnit::of_stage(stage))?;
+    Ok(())
 }

@@ -1,3 +1,5 @@
 pub mod StageFields
+pub mod DealOuts
 pub mod UnitRuns
 pub mod UnitAborts
+pub mod FlagViews

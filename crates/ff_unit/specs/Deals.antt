@@ -1,5 +1,5 @@
 -- A deal: its state, how it steps, and what it does as a unit.
-use Rattle.std.specs.Prelude.{◌≡◌, ◌≢◌, ◌⊎◌, ◌+◌, ◌<◌, ◌≤◌, ◌==◌, ℕ, zero, suc, Bool, true, false, if◌then◌else◌, List, [], ◌∷◌, length, slice_index, Option, None, Some, IsSome}
+use Rattle.std.specs.Prelude.{◌≡◌, ◌≢◌, ◌⊎◌, ◌<◌, ◌≤◌, ◌==◌, ℕ, zero, suc, Bool, true, false, if◌then◌else◌, List, [], ◌∷◌, length, slice_index, Option, None, Some, IsSome}
 use Rattle.ff_rec.specs.Fields.{field_at}
 use Rattle.ff_rec.specs.Lines.{Rec}
 use Rattle.ff_rec.specs.Streams.{IsOpen, at}

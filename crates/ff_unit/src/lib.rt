@@ -3,12 +3,27 @@
 #![tactic(auto)]
 
 mod aborts;
+mod closing;
+mod deal;
 mod dealing;
+mod flags;
+mod keys;
+mod merge;
 mod mode;
 mod stage;
+mod takes;
 mod unit;
 
+pub use closing::{last_message, spoil};
+pub use deal::Deal;
 pub use dealing::Dealing;
+pub use flags::Flags;
+pub use keys::key_place;
+pub use merge::Merge;
 pub use mode::Mode;
 pub use stage::Stage;
+pub use takes::take_any;
 pub use unit::Unit;
+
+#[cfg(test)]
+mod tests;

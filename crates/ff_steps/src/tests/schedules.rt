@@ -1,9 +1,9 @@
 // Many random schedules of networks, whose middle node ends by itself.
 use super::narrow::{Narrow, narrow_of};
 use super::opened;
+use super::seen::{output, random, rejects};
 use crate::NetCore;
 use ff_net::Net;
-use ff_rec::print_record;
 use std::alloc::Global;
 use std::process::Abort;
 use std::test::Fail;
@@ -55,14 +55,6 @@ fn network(alloc: Global, form: Form) -> Result<Net<Narrow>, Fail> {
     })
 }
 
-// The next number of a xorshift generator.
-fn random(seed: &mut u32) -> u32 {
-    *seed ^= *seed << 13;
-    *seed ^= *seed >> 17;
-    *seed ^= *seed << 5;
-    *seed
-}
-
 // Ten numbers from 0 to 6. The parties are 0 to 4 at most.
 fn ten(seed: &mut u32) -> [u32; 10] {
     let mut events = [0; 10];
@@ -70,28 +62,6 @@ fn ten(seed: &mut u32) -> [u32; 10] {
         *event = random(seed) % 7;
     }
     events
-}
-
-// The output so far, one record a line.
-fn output(alloc: Global, core: &NetCore<Narrow>) -> Result<Vec<u8>, Fail> {
-    let mut text = Vec::new(alloc);
-    for k in 0..core.output().len() {
-        if let Some(r) = core.output().get(k) {
-            print_record(r, &mut text)?;
-        }
-    }
-    Ok(text)
-}
-
-// The rejects, which are taken out, one record a line.
-fn rejects(alloc: Global, core: &mut NetCore<Narrow>) -> Result<Vec<u8>, Fail> {
-    let mut text = Vec::new(alloc);
-    for _ in 0..core.rejected() {
-        if let Some(r) = core.take_reject() {
-            print_record(&r, &mut text)?;
-        }
-    }
-    Ok(text)
 }
 
 // Runs so many random events, and shows after each ten that the output is a beginning of the expected one.

@@ -1,15 +1,22 @@
--- The units made no step.
-use Rattle.std.proofs.Common.{[], ◌∷◌, sym, subst, rules}
+-- The units are those of the plan, and made no step.
+use Rattle.std.proofs.Common.{◌≡◌, sym, ◌∙◌, subst, rules}
 use Rattle.std.specs.List.{All}
-use Rattle.ff_node.specs.Comb.{comb_node}
-use Rattle.ff_net.specs.Nodes.{node_groups}
 use Rattle.ff_net.specs.Tree.{tree_of}
-use Rattle.ff_unit.specs.StageUnit.{stage_does}
-use Rattle.ff_unit.specs.Units.{Ran}
-use Rattle.ff_steps.proofs.UnitsOpened.{Ran-opened_units}
+use Rattle.ff_steps.specs.NetUnits.{net_does}
+use Rattle.ff_steps.specs.PlanUnits.{units_in, IsUnrun}
+use Rattle.ff_steps.proofs.UnitsAlong.{opened_units-in}
+use Rattle.ff_steps.proofs.UnitsOpened.{unrun-opened_units}
 use Rattle.ff_steps.proofs.units.make_units.Goals as goal
 
-pub returns-clause-ran : goal.returns-clause-ran
-returns-clause-ran g c =
-    subst (All (λ u. Ran (stage_does (comb_node g.N.Node.does)) u ([] ∷ []) ([] ∷ []))) (sym (search rules))
-    (Ran-opened_units g.N.Node.does g.met.N.Node.keeps_kind c.args.keep (node_groups (tree_of c.args.checked.now.net)))
+pub returns-clause-units : goal.returns-clause-units
+returns-clause-units g c =
+    let t = tree_of c.args.checked.now.net in
+    let good = c.checked_networks_are_good.ensures.good in
+    let made : c.add_units.new.units.items ≡ units_in g.N.Node.does c.args.keep t = search rules in
+    made ∙ sym (opened_units-in g.N.Node.does c.args.keep t c.requires good)
+
+pub returns-clause-unrun : goal.returns-clause-unrun
+returns-clause-unrun g c =
+    let good = c.checked_networks_are_good.ensures.good in
+    subst (All (IsUnrun (net_does g.N.Node.does))) (sym (returns-clause-units g c))
+    (unrun-opened_units g.N.Node.does g.met.N.Node.keeps_kind c.args.keep (tree_of c.args.checked.now.net) c.requires good)

@@ -1,11 +1,11 @@
 -- The core of a network before its first event is at a good moment.
 use Rattle.std.proofs.Common.{◌≤◌, length, map, sym, ap, ◌∙◌, subst, arith}
-use Rattle.ff_node.specs.Comb.{comb_node}
 use Rattle.ff_net.specs.Tree.{tree_of}
 use Rattle.ff_plan.specs.Plans.{Plan}
-use Rattle.ff_unit.specs.StageUnit.{stage_does}
 use Rattle.ff_steps.specs.Core.{IsSound}
 use Rattle.ff_steps.specs.NetCores.{port_row, edge_queues, opened_net, IsNetCore, IsGood}
+use Rattle.ff_steps.specs.NetUnitLaws.{IsUnit-nodes}
+use Rattle.ff_steps.specs.NetUnits.{net_does}
 use Rattle.ff_steps.proofs.NetBegins.{IsGood-core}
 use Rattle.ff_steps.proofs.NetMade.{some-cap, few-opened_units, opened_core-net, IsSound-net, IsNetCore-net}
 use Rattle.ff_steps.proofs.network.NetCore.new.Goals as goal
@@ -27,10 +27,10 @@ start-core-requires-clause-sound g c =
     let t = tree_of c.args.checked.net in
     let rows = c.in_ok-rows.ensures ∙ ap (map port_row) (c.units.ensures ∙ ap (λ (p : Plan). p.units) c.in_ok-plan.ensures) in
     let queues = c.in_ok-edges.ensures ∙ ap edge_queues (c.edges.ensures ∙ ap (λ (p : Plan). p.edges) c.in_ok-plan.ensures) in
-    subst (IsSound (stage_does (comb_node b)))
+    subst (IsSound (net_does b))
     (sym (opened_core-net b c.args.keep t c.requires.free c.args.cap c.in_ok-units.units.items c.in_ok-rows.rows.items c.in_ok-edges.edges.items c.args.input
     c.in_ok-units.ensures.units rows queues))
-    (IsSound-net b c.args.keep t c.requires.free g.met.N.Node.keeps_kind c.each_edge_has_two_ends.ensures c.args.cap c.args.input)
+    (IsSound-net b c.args.keep t c.requires.free g.met.N.Node.keeps_kind c.checked_networks_are_good.ensures.good c.each_edge_has_two_ends.ensures c.args.cap c.args.input)
 
 pub invariant_of-result : goal.invariant_of-result
 invariant_of-result g c =
@@ -41,7 +41,7 @@ invariant_of-result g c =
     let opened = opened_core-net b c.args.keep t c.requires.free c.args.cap c.in_ok-units.units.items c.in_ok-rows.rows.items c.in_ok-edges.edges.items c.args.input
     c.in_ok-units.ensures.units rows queues in record {
       made = subst (IsNetCore b c.args.keep t) (sym (c.start-core.ensures ∙ opened))
-          (IsNetCore-net b c.args.keep t c.requires.free g.met.N.Node.keeps_kind c.each_edge_has_two_ends.ensures c.args.cap c.args.input);
+          (IsNetCore-net b c.args.keep t c.requires.free g.met.N.Node.keeps_kind c.checked_networks_are_good.ensures.good c.each_edge_has_two_ends.ensures c.args.cap c.args.input);
     }
 
 pub returns-clause-opened : goal.returns-clause-opened
@@ -59,6 +59,6 @@ returns-clause-good g c =
     let b = g.N.Node.does in
     let t = tree_of c.args.checked.net in
     subst (IsGood b t) (sym (returns-clause-opened g c))
-    (IsGood-core b g.met.N.Node.keeps_kind g.met.N.Node.class_law c.args.keep t c.cut_runs.ensures (opened_net b c.args.keep t c.args.cap c.args.input)
-    (IsNetCore-net b c.args.keep t c.requires.free g.met.N.Node.keeps_kind c.each_edge_has_two_ends.ensures c.args.cap c.args.input)
-    (IsSound-net b c.args.keep t c.requires.free g.met.N.Node.keeps_kind c.each_edge_has_two_ends.ensures c.args.cap c.args.input))
+    (IsGood-core b g.met.N.Node.keeps_kind (IsUnit-nodes b g.met.N.Node.keeps_kind g.met.N.Node.class_law) c.args.keep t c.checked_networks_are_good.ensures.good c.cut_runs.ensures (opened_net b c.args.keep t c.args.cap c.args.input)
+    (IsNetCore-net b c.args.keep t c.requires.free g.met.N.Node.keeps_kind c.checked_networks_are_good.ensures.good c.each_edge_has_two_ends.ensures c.args.cap c.args.input)
+    (IsSound-net b c.args.keep t c.requires.free g.met.N.Node.keeps_kind c.checked_networks_are_good.ensures.good c.each_edge_has_two_ends.ensures c.args.cap c.args.input))

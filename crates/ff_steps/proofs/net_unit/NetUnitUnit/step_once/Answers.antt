@@ -1,0 +1,25 @@
+-- What is asked of a unit is asked of its part.
+use Rattle.std.proofs.Common.{sym, ap, ◌∙◌, subst}
+use Rattle.ff_steps.specs.NetUnits.{NetState, net_does}
+use Rattle.ff_steps.specs.PartViews.{state_of}
+use Rattle.ff_steps.proofs.net_unit.NetUnitUnit.step_once.Goals as goal
+
+pub step_once-requires : goal.step_once-requires
+step_once-requires g c =
+    subst (λ (u : NetState g.row.N.Denot). (net_does g.N.Node.does).Ready u (g.P.Ports.gots c.args.ports.now) (g.P.Ports.puts c.args.ports.now))
+    (sym c.self.view_is ∙ ap state_of c.in-Stage.is) c.requires
+
+pub step_once-requires-in-Deal : goal.step_once-requires-in-Deal
+step_once-requires-in-Deal g c =
+    subst (λ (u : NetState g.row.N.Denot). (net_does g.N.Node.does).Ready u (g.P.Ports.gots c.args.ports.now) (g.P.Ports.puts c.args.ports.now))
+    (sym c.self.view_is ∙ ap state_of c.in-Deal.is) c.requires
+
+pub step_once-requires-in-Merge : goal.step_once-requires-in-Merge
+step_once-requires-in-Merge g c =
+    subst (λ (u : NetState g.row.N.Denot). (net_does g.N.Node.does).Ready u (g.P.Ports.gots c.args.ports.now) (g.P.Ports.puts c.args.ports.now))
+    (sym c.self.view_is ∙ ap state_of c.in-Merge.is) c.requires
+
+pub step_once-requires-in-OMerge : goal.step_once-requires-in-OMerge
+step_once-requires-in-OMerge g c =
+    subst (λ (u : NetState g.row.N.Denot). (net_does g.N.Node.does).Ready u (g.P.Ports.gots c.args.ports.now) (g.P.Ports.puts c.args.ports.now))
+    (sym c.self.view_is ∙ ap state_of c.in-OMerge.is) c.requires

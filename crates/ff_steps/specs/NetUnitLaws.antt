@@ -1,0 +1,142 @@
+-- A unit of a network keeps the laws of a unit, as its part does.
+use Rattle.std.proofs.Common.{◌≡◌, ◌⊎◌, true, false, List, [], Some, IsSome, refl, ap, ◌∙◌}
+use Rattle.ff_node.specs.Behaviour.{Behaviour, KeepsKind}
+use Rattle.ff_node.specs.Classes.{ClassLaw}
+use Rattle.ff_node.specs.Comb.{Part, comb_node}
+use Rattle.ff_node.specs.CombClassLaws.{comb_class_law}
+use Rattle.ff_node.specs.CombKindLaws.{comb_keeps_kind}
+use Rattle.ff_node.specs.Runs.{Message, Act, Leads, BeginsToFit, FitsWhole}
+use Rattle.ff_order.specs.OMergeLaws.{IsUnit-omerge}
+use Rattle.ff_order.specs.OMerges.{OMergeState, OMergeStep, omerge_does}
+use Rattle.ff_port.specs.declared.answers.End.TheVariants.{Eos, Abort}
+use Rattle.ff_unit.specs.DealLaws.{IsUnit-deal}
+use Rattle.ff_unit.specs.Deals.{DealState, DealStep, deal_does}
+use Rattle.ff_unit.specs.MergeLaws.{IsUnit-merge}
+use Rattle.ff_unit.specs.Merges.{MergeState, MergeStep, merge_does}
+use Rattle.ff_unit.specs.Stage.{StageState}
+use Rattle.ff_unit.specs.StageLaws.{IsUnit-stage}
+use Rattle.ff_unit.specs.StageSteps.{StageStep}
+use Rattle.ff_unit.specs.StageUnit.{stage_does}
+use Rattle.ff_unit.specs.Units.{IsUnit, Ran, HasRejects, TookAbort, taken_by, told_by, told_acts}
+use Rattle.ff_steps.specs.NetUnits.{NetState, AsStage, AsDeal, AsMerge, AsOMerge, NetStep, net_does, opening_net, aborted_net}
+use Rattle.ff_steps.specs.PartLaws.{HasRun-part, Leads-whole}
+
+module _ {N : Type 0} (b : Behaviour N) where
+  -- the run of a unit is the run of its part
+  pub Ran-stage : (u : StageState (List (Part N))) (gots puts : List (List Message)) → Ran (net_does b) (AsStage u) gots puts → Ran (stage_does (comb_node b)) u gots puts
+  Ran-stage u gots puts ran =
+      let d = stage_does (comb_node b) in
+      (ran.0, HasRun-part (StageStep (comb_node b)) (NetStep b) AsStage (λ x act v s. s) (λ x w e. cc e) (d.opening u) u (d.ins (d.opening u)) (d.outs (d.opening u)) gots puts ran.1)
+
+  pub Ran-deal : (u : DealState) (gots puts : List (List Message)) → Ran (net_does b) (AsDeal u) gots puts → Ran deal_does u gots puts
+  Ran-deal u gots puts ran =
+      let d = deal_does in
+      (ran.0, HasRun-part DealStep (NetStep b) AsDeal (λ x act v s. s) (λ x w e. cc e) (d.opening u) u (d.ins (d.opening u)) (d.outs (d.opening u)) gots puts ran.1)
+
+  pub Ran-merge : (u : MergeState) (gots puts : List (List Message)) → Ran (net_does b) (AsMerge u) gots puts → Ran merge_does u gots puts
+  Ran-merge u gots puts ran =
+      let d = merge_does in
+      (ran.0, HasRun-part MergeStep (NetStep b) AsMerge (λ x act v s. s) (λ x w e. cc e) (d.opening u) u (d.ins (d.opening u)) (d.outs (d.opening u)) gots puts ran.1)
+
+  pub Ran-omerge : (u : OMergeState) (gots puts : List (List Message)) → Ran (net_does b) (AsOMerge u) gots puts → Ran omerge_does u gots puts
+  Ran-omerge u gots puts ran =
+      let d = omerge_does in
+      (ran.0, HasRun-part OMergeStep (NetStep b) AsOMerge (λ x act v s. s) (λ x w e. cc e) (d.opening u) u (d.ins (d.opening u)) (d.outs (d.opening u)) gots puts ran.1)
+
+  module _ (stage : IsUnit (stage_does (comb_node b))) (deal : IsUnit deal_does) (merge : IsUnit merge_does) (omerge : IsUnit omerge_does) where
+    opening-kept : (u : NetState N) (act : Act) (v : NetState N) → NetStep b u act v → opening_net b v ≡ opening_net b u
+    opening-kept (AsStage u) act v s = ap (opening_net b) s.1 ∙ ap AsStage (stage.opening_kept u act s.0 s.2)
+    opening-kept (AsDeal u) act v s = ap (opening_net b) s.1 ∙ ap AsDeal (deal.opening_kept u act s.0 s.2)
+    opening-kept (AsMerge u) act v s = ap (opening_net b) s.1 ∙ ap AsMerge (merge.opening_kept u act s.0 s.2)
+    opening-kept (AsOMerge u) act v s = ap (opening_net b) s.1 ∙ ap AsOMerge (omerge.opening_kept u act s.0 s.2)
+
+    taken-kept : (u : NetState N) (act : Act) (v : NetState N) → NetStep b u act v → (net_does b).taken v ≡ taken_by act ((net_does b).taken u)
+    taken-kept (AsStage u) act v s = ap (net_does b).taken s.1 ∙ stage.taken_kept u act s.0 s.2
+    taken-kept (AsDeal u) act v s = ap (net_does b).taken s.1 ∙ deal.taken_kept u act s.0 s.2
+    taken-kept (AsMerge u) act v s = ap (net_does b).taken s.1 ∙ merge.taken_kept u act s.0 s.2
+    taken-kept (AsOMerge u) act v s = ap (net_does b).taken s.1 ∙ omerge.taken_kept u act s.0 s.2
+
+    told-kept : (u : NetState N) (act : Act) (v : NetState N) → NetStep b u act v → (net_does b).told v ≡ told_by act ((net_does b).told u)
+    told-kept (AsStage u) act v s = ap (net_does b).told s.1 ∙ stage.told_kept u act s.0 s.2
+    told-kept (AsDeal u) act v s = ap (net_does b).told s.1 ∙ deal.told_kept u act s.0 s.2
+    told-kept (AsMerge u) act v s = ap (net_does b).told s.1 ∙ merge.told_kept u act s.0 s.2
+    told-kept (AsOMerge u) act v s = ap (net_does b).told s.1 ∙ omerge.told_kept u act s.0 s.2
+
+    opened : (u : NetState N) → ((net_does b).done (opening_net b u) ≡ false) × ((net_does b).told (opening_net b u) ≡ false) × ((net_does b).taken (opening_net b u) ≡ [])
+    opened (AsStage u) = stage.opened u
+    opened (AsDeal u) = deal.opened u
+    opened (AsMerge u) = merge.opened u
+    opened (AsOMerge u) = omerge.opened u
+
+    ready : (u : NetState N) (gots puts : List (List Message)) → Ran (net_does b) u gots puts → (net_does b).Ready u gots puts
+    ready (AsStage u) gots puts ran = stage.ready u gots puts (Ran-stage u gots puts ran)
+    ready (AsDeal u) gots puts ran = deal.ready u gots puts (Ran-deal u gots puts ran)
+    ready (AsMerge u) gots puts ran = merge.ready u gots puts (Ran-merge u gots puts ran)
+    ready (AsOMerge u) gots puts ran = omerge.ready u gots puts (Ran-omerge u gots puts ran)
+
+    ends : (u : NetState N) (gots puts : List (List Message)) → Ran (net_does b) u gots puts → (net_does b).done u ≡ true → IsSome ((net_does b).fin u)
+    ends (AsStage u) gots puts ran = stage.ends u gots puts (Ran-stage u gots puts ran)
+    ends (AsDeal u) gots puts ran = deal.ends u gots puts (Ran-deal u gots puts ran)
+    ends (AsMerge u) gots puts ran = merge.ends u gots puts (Ran-merge u gots puts ran)
+    ends (AsOMerge u) gots puts ran = omerge.ends u gots puts (Ran-omerge u gots puts ran)
+
+    begins : (u : NetState N) (gots puts : List (List Message)) → Ran (net_does b) u gots puts → BeginsToFit ((net_does b).Fits u) gots puts
+    begins (AsStage u) gots puts ran = stage.begins u gots puts (Ran-stage u gots puts ran)
+    begins (AsDeal u) gots puts ran = deal.begins u gots puts (Ran-deal u gots puts ran)
+    begins (AsMerge u) gots puts ran = merge.begins u gots puts (Ran-merge u gots puts ran)
+    begins (AsOMerge u) gots puts ran = omerge.begins u gots puts (Ran-omerge u gots puts ran)
+
+    whole : (u : NetState N) (gots puts : List (List Message)) → Ran (net_does b) u gots puts → (net_does b).done u ≡ true → (net_does b).fin u ≡ Some Eos
+        → FitsWhole ((net_does b).Fits u) gots puts
+    whole (AsStage u) gots puts ran = stage.whole u gots puts (Ran-stage u gots puts ran)
+    whole (AsDeal u) gots puts ran = deal.whole u gots puts (Ran-deal u gots puts ran)
+    whole (AsMerge u) gots puts ran = merge.whole u gots puts (Ran-merge u gots puts ran)
+    whole (AsOMerge u) gots puts ran = omerge.whole u gots puts (Ran-omerge u gots puts ran)
+
+    -- the fields of a part's rejects are those of the unit
+    rejects-are : (u : NetState N) (gots puts : List (List Message)) → Ran (net_does b) u gots puts → (net_does b).done u ≡ true → (net_does b).fin u ≡ Some Eos
+        → HasRejects (net_does b) u gots
+    rejects-are (AsStage u) gots puts ran done fin =
+        let r = stage.rejects_are u gots puts (Ran-stage u gots puts ran) done fin in record { number_is = r.number_is; kept_are = r.kept_are; none = r.none }
+    rejects-are (AsDeal u) gots puts ran done fin =
+        let r = deal.rejects_are u gots puts (Ran-deal u gots puts ran) done fin in record { number_is = r.number_is; kept_are = r.kept_are; none = r.none }
+    rejects-are (AsMerge u) gots puts ran done fin =
+        let r = merge.rejects_are u gots puts (Ran-merge u gots puts ran) done fin in record { number_is = r.number_is; kept_are = r.kept_are; none = r.none }
+    rejects-are (AsOMerge u) gots puts ran done fin =
+        let r = omerge.rejects_are u gots puts (Ran-omerge u gots puts ran) done fin in record { number_is = r.number_is; kept_are = r.kept_are; none = r.none }
+
+    causes : (u : NetState N) (gots puts : List (List Message)) → Ran (net_does b) u gots puts → (net_does b).fin u ≡ Some Abort
+        → ((net_does b).told u ≡ true) ⊎ TookAbort gots
+    causes (AsStage u) gots puts ran = stage.causes u gots puts (Ran-stage u gots puts ran)
+    causes (AsDeal u) gots puts ran = deal.causes u gots puts (Ran-deal u gots puts ran)
+    causes (AsMerge u) gots puts ran = merge.causes u gots puts (Ran-merge u gots puts ran)
+    causes (AsOMerge u) gots puts ran = omerge.causes u gots puts (Ran-omerge u gots puts ran)
+
+    aborts-by : (u : NetState N) → u ≡ opening_net b u → Leads (NetStep b) u (told_acts ((net_does b).outs u)) (aborted_net u)
+    aborts-by (AsStage u) fresh =
+        Leads-whole (StageStep (comb_node b)) (NetStep b) AsStage (λ x act w s. (w, refl, s)) u (told_acts 1) ((stage_does (comb_node b)).aborted u) (stage.aborts_by u (cc fresh))
+    aborts-by (AsDeal u) fresh =
+        Leads-whole DealStep (NetStep b) AsDeal (λ x act w s. (w, refl, s)) u (told_acts (deal_does.outs u)) (deal_does.aborted u) (deal.aborts_by u (cc fresh))
+    aborts-by (AsMerge u) fresh =
+        Leads-whole MergeStep (NetStep b) AsMerge (λ x act w s. (w, refl, s)) u (told_acts 1) (merge_does.aborted u) (merge.aborts_by u (cc fresh))
+    aborts-by (AsOMerge u) fresh =
+        Leads-whole OMergeStep (NetStep b) AsOMerge (λ x act w s. (w, refl, s)) u (told_acts 1) (omerge_does.aborted u) (omerge.aborts_by u (cc fresh))
+
+    pub IsUnit-net : IsUnit (net_does b)
+    IsUnit-net = record {
+      opening_kept = opening-kept;
+      taken_kept = taken-kept;
+      told_kept = told-kept;
+      opened = opened;
+      ready = ready;
+      ends = ends;
+      begins = begins;
+      whole = whole;
+      rejects_are = rejects-are;
+      causes = causes;
+      aborts_by = aborts-by;
+    }
+
+  -- with nodes that keep the laws of nodes
+  pub IsUnit-nodes : KeepsKind b → ((o : N) → ClassLaw b o (b.class o)) → IsUnit (net_does b)
+  IsUnit-nodes kind law = IsUnit-net (IsUnit-stage (comb_node b) (comb_keeps_kind b kind) (comb_class_law b law)) IsUnit-deal IsUnit-merge IsUnit-omerge

@@ -1,0 +1,11 @@
+-- A unit of a network as the definitions see it.
+use Rattle.ff_steps.specs.NetUnits.{NetState, AsStage, AsDeal, AsMerge, AsOMerge}
+use Rattle.ff_steps.specs.declared.net_unit.Part.{Part}
+use Rattle.ff_steps.specs.declared.net_unit.Part.TheVariants.{Stage, Deal, Merge, OMerge}
+
+-- by what it is
+abbrev pub state_of : {N : Type 0} → Part N → NetState N
+state_of (Stage u) = AsStage u
+state_of (Deal u) = AsDeal u
+state_of (Merge u) = AsMerge u
+state_of (OMerge u) = AsOMerge u

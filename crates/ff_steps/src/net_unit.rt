@@ -1,0 +1,126 @@
+// A unit of a network, whatever it is.
+ghost use Rattle.std.specs.Prelude.{◌≡◌};
+ghost use Rattle.ff_steps.specs.NetUnits.{AsStage, AsDeal, AsMerge, AsOMerge};
+
+use ff_node::{Comb, Node};
+use ff_order::OMerge;
+use ff_port::{End, Ports, Step};
+use ff_rec::Record;
+use ff_unit::{Deal, Merge, Stage, Unit};
+use std::marker::Model;
+
+/// A unit of a network: a stage, a deal, a merge or an ordered merge.
+#[derive(Drop)]
+pub struct NetUnit<N> {
+    part: Part<N>,
+}
+
+// What it is. A leaf runs as the comb of its one node.
+#[derive(Drop)]
+enum Part<N> {
+    Stage(Stage<Comb<N>>),
+    Deal(Deal),
+    Merge(Merge),
+    OMerge(OMerge),
+}
+
+impl<N> Model for NetUnit<N> {
+    ghost use Rattle.ff_steps.specs.NetUnits.{NetState};
+    ghost use Rattle.ff_steps.specs.PartViews.{state_of};
+
+    ghost Value = { NetState N };
+
+    ghost view = { λ u. state_of u.part };
+}
+
+impl<N> NetUnit<N> {
+    /// A unit that is this stage.
+    pub(crate) fn of_stage(stage: Stage<Comb<N>>) -> NetUnit<N>
+        ensures { result ≡ AsStage stage }
+    {
+        NetUnit {
+            part: Part::Stage(stage),
+        }
+    }
+
+    /// A unit that is this deal.
+    pub(crate) fn of_deal(deal: Deal) -> NetUnit<N>
+        ensures { result ≡ AsDeal deal }
+    {
+        NetUnit {
+            part: Part::Deal(deal),
+        }
+    }
+
+    /// A unit that is this merge.
+    pub(crate) fn of_merge(merge: Merge) -> NetUnit<N>
+        ensures { result ≡ AsMerge merge }
+    {
+        NetUnit {
+            part: Part::Merge(merge),
+        }
+    }
+
+    /// A unit that is this ordered merge.
+    pub(crate) fn of_omerge(merge: OMerge) -> NetUnit<N>
+        ensures { result ≡ AsOMerge merge }
+    {
+        NetUnit {
+            part: Part::OMerge(merge),
+        }
+    }
+}
+
+impl<N: Node> Unit for NetUnit<N> {
+    ghost use Rattle.ff_steps.specs.NetUnitLaws.{IsUnit-nodes};
+    ghost use Rattle.ff_steps.specs.NetUnits.{net_does};
+
+    ghost does = { net_does N.does };
+
+    fn step_once<P: Ports<Record>>(&mut self, ports: &mut P) -> Step {
+        match &mut self.part {
+            Part::Stage(stage) => stage.step_once(ports),
+            Part::Deal(deal) => deal.step_once(ports),
+            Part::Merge(merge) => merge.step_once(ports),
+            Part::OMerge(merge) => merge.step_once(ports),
+        }
+    }
+
+    fn end_aborted(&mut self) {
+        match &mut self.part {
+            Part::Stage(stage) => stage.end_aborted(),
+            Part::Deal(deal) => deal.end_aborted(),
+            Part::Merge(merge) => merge.end_aborted(),
+            Part::OMerge(merge) => merge.end_aborted(),
+        }
+    }
+
+    fn take_kept(&mut self) -> Option<Record> {
+        match &mut self.part {
+            Part::Stage(stage) => stage.take_kept(),
+            Part::Deal(deal) => deal.take_kept(),
+            Part::Merge(merge) => merge.take_kept(),
+            Part::OMerge(merge) => merge.take_kept(),
+        }
+    }
+
+    fn end(&self) -> Option<End> {
+        match &self.part {
+            Part::Stage(stage) => stage.end(),
+            Part::Deal(deal) => deal.end(),
+            Part::Merge(merge) => merge.end(),
+            Part::OMerge(merge) => merge.end(),
+        }
+    }
+
+    fn rejected(&self) -> u64 {
+        match &self.part {
+            Part::Stage(stage) => stage.rejected(),
+            Part::Deal(deal) => deal.rejected(),
+            Part::Merge(merge) => merge.rejected(),
+            Part::OMerge(merge) => merge.rejected(),
+        }
+    }
+
+    ghost sound = { IsUnit-nodes N.does N.keeps_kind N.class_law };
+}

@@ -1,0 +1,60 @@
+-- A deal that made no step is tied to its ports.
+use Rattle.std.specs.Prelude.{◌≡◌, ◌<◌, ◌≤◌, ℕ, Bool, true, false, List, [], ◌∷◌, ◌++◌, replicate, Option, None, Some}
+use Rattle.std.proofs.Common.{refl, sym, ap, ap₂, ◌∙◌, subst, arith, inl, inr}
+use Rattle.std.proofs.lemmas.Bool.{false≢true}
+use Rattle.std.proofs.lemmas.Option.{none-some}
+use Rattle.ff_rec.specs.Lines.{Rec}
+use Rattle.ff_rec.specs.Streams.{added}
+use Rattle.ff_rec.specs.declared.msg.Msg.TheVariants.{Item, Abort as AbortMsg}
+use Rattle.ff_node.specs.Runs.{Message, Act, Took, Gave, Refused, Idle, Told, Handed, HasRun, took, gave}
+use Rattle.ff_port.specs.declared.answers.End.{End}
+use Rattle.ff_port.specs.declared.answers.End.TheVariants.{Eos, Abort, Memory}
+use Rattle.ff_unit.specs.Deals.{DealState, DealStep, DealGives, MayBeRefused, behind, deal_outs, deal_takes, on_outs, opened_deal, opening_deal}
+use Rattle.ff_unit.specs.RunLaws.{HasRun-keeps}
+use Rattle.ff_unit.specs.declared.dealing.Dealing.{Dealing}
+use Rattle.ff_unit.specs.declared.dealing.Dealing.TheVariants.{InTurn, OnDemand, ByKey, GroupsInTurn, GroupsOnDemand}
+use Rattle.ff_unit.specs.DealCutLaws.{TiedCut-live, TiedAt-refused}
+use Rattle.ff_unit.specs.DealGivesLaws.{TiedAt-held, TiedAt-free}
+use Rattle.ff_unit.specs.DealKindLaws.{deal_takes-same}
+use Rattle.ff_unit.specs.DealPairLaws.{Pair}
+use Rattle.ff_unit.specs.DealPickLaws.{IsPicked}
+use Rattle.ff_unit.specs.DealRowLaws.{ArePut, ArePut-none, ArePut-added}
+use Rattle.ff_unit.specs.DealTakesLaws.{deal_takes-tied}
+use Rattle.ff_unit.specs.DealTiedLaws.{TiedLive, TiedAt, IsTied}
+use Rattle.ff_unit.specs.DealTurnLaws.{IsTurn}
+
+-- a deal that made no step
+IsPicked-none : (way : Dealing) (n : ℕ) → IsPicked way n 0 [] []
+IsPicked-none InTurn n = record { each = refl; within = tt; by_way = refl }
+IsPicked-none OnDemand n = record { each = refl; within = tt; by_way = tt }
+IsPicked-none (ByKey f) n = record { each = refl; within = tt; by_way = refl }
+IsPicked-none GroupsInTurn n = record { each = refl; within = tt; by_way = refl }
+IsPicked-none GroupsOnDemand n = record { each = refl; within = tt; by_way = tt }
+
+IsTurn-none : (way : Dealing) (n : ℕ) → IsTurn way n 0 0
+IsTurn-none InTurn n = omega arith
+IsTurn-none OnDemand n = tt
+IsTurn-none (ByKey f) n = tt
+IsTurn-none GroupsInTurn n = omega arith
+IsTurn-none GroupsOnDemand n = tt
+
+pub IsTied-opened : (way : Dealing) (n : ℕ) → 1 ≤ n → IsTied (opened_deal way n) ([] ∷ []) (replicate (deal_outs way n) [])
+IsTied-opened way n some = record {
+  some = some;
+  turn = omega (arith, some);
+  done = λ done. absurd (false≢true done);
+  got = [];
+  gots_are = refl;
+  given = [];
+  puts_are = ArePut-none (deal_outs way n);
+  tied = record {
+    inner = tt;
+    picks = [];
+    xs = [];
+    picked = IsPicked-none way n;
+    turn = IsTurn-none way n;
+    items_are = refl;
+    sends = refl;
+    alone = λ some. absurd (false≢true some);
+  };
+}

@@ -1,0 +1,46 @@
+-- A deal that has ended by Eos fits what it took and put.
+use Rattle.std.specs.Prelude.{◌≡◌, ◌+◌, ◌<◌, ◌≤◌, ℕ, Bool, true, false, List, [], ◌∷◌, ◌++◌, length, Some}
+use Rattle.std.specs.Option.{option_to_list}
+use Rattle.std.proofs.Common.{refl, sym, ap, ◌∙◌, subst, arith, append-nil, append_assoc, length-append}
+use Rattle.ff_rec.specs.Lines.{Rec}
+use Rattle.ff_rec.specs.Streams.{IsOpen, IsOpenMsg, at, items, unaborted, closed, GoesOn}
+use Rattle.ff_rec.specs.declared.msg.Msg.TheVariants.{Item, Mark, Pick, Eos as EosMsg, Abort as AbortMsg}
+use Rattle.ff_node.specs.Runs.{Message, AllGoOn, HasOuts, BeginsToFit, FitsWhole}
+use Rattle.ff_port.specs.declared.answers.End.{End}
+use Rattle.ff_port.specs.declared.answers.End.TheVariants.{Eos, Abort, Memory}
+use Rattle.ff_unit.specs.Closing.{decided}
+use Rattle.ff_unit.specs.Deals.{DealState, FitsDeal, deal_outs}
+use Rattle.ff_unit.specs.MessageLaws.{items-append, unaborted-append, unaborted-open, unaborted-closed, unaborted-cut}
+use Rattle.ff_unit.specs.DealFitsLaws.{outs_of, FitsDeal-sent}
+use Rattle.ff_unit.specs.DealPairLaws.{Pair, IsInner, AreInner, AllByRecursion-front, on, on-append, IsOpen-on}
+use Rattle.ff_unit.specs.DealPickLaws.{IsPicked, IsPicked-some, IsPicked-append, some_picks}
+use Rattle.ff_unit.specs.DealRowLaws.{AllGoOn-rows, rows-closed}
+use Rattle.ff_unit.specs.DealSentLaws.{sent, sent-append, AreInner-sent}
+use Rattle.ff_unit.specs.DealTellingLaws.{on-telling}
+use Rattle.ff_unit.specs.DealTiedLaws.{TiedLive, TiedShut, TiedCut, TiedAt, IsTied}
+
+whole-shut : (u : DealState) (gots puts : List (List Message)) (t : IsTied u gots puts) → u.held ≡ [] → TiedShut u t.got t.given → FitsWhole (FitsDeal u.way u.places) gots puts
+whole-shut u gots puts t none s =
+    let number = deal_outs u.way u.places in
+    let all = sent u.way u.places s.picks (items s.ms) in
+    record {
+      ins = s.ms ∷ [];
+      outs = outs_of u.way u.places s.picks (items s.ms);
+      gots_are = t.gots_are ∙ ap (λ l. l ∷ []) s.is;
+      puts_are = rows-closed (λ j. on j all) 0 number puts t.puts_are.outs (λ j below.
+          let same : j ≡ 0 + j = omega arith in
+          t.puts_are.each j below
+          ∙ sym (append-nil (on j t.given))
+          ∙ ap (λ h. on j t.given ++ on j h) (sym none)
+          ∙ on-telling number EosMsg all t.given u.held j below s.telling
+          ∙ ap (λ i. closed (on i all)) same);
+      fits = FitsDeal-sent u.way u.places s.picks s.ms s.picked;
+    }
+
+pub FitsWhole-deal : (u : DealState) (gots puts : List (List Message)) → IsTied u gots puts → u.done ≡ true → decided u.live u.end ≡ Some Eos
+    → FitsWhole (FitsDeal u.way u.places) gots puts
+FitsWhole-deal u gots puts t done fin =
+    let rests = t.done done in
+    let is : Some u.end ≡ Some Eos = sym (ap (λ l. decided l u.end) rests.2) ∙ fin in
+    let eos : u.end ≡ Eos = cc in
+    whole-shut u gots puts t rests.1 (subst (λ e. TiedAt false e u t.got t.given) eos (subst (λ l. TiedAt l u.end u t.got t.given) rests.2 t.tied))

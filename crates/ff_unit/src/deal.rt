@@ -1,0 +1,169 @@
+// A deal: records go to several outs.
+ghost use Rattle.std.specs.Prelude.{◌≡◌, ◌≤◌, suc, [], ◌∷◌, replicate};
+ghost use Rattle.ff_unit.specs.Deals.{opened_deal, deal_outs, deal_does};
+ghost use Rattle.ff_unit.specs.Units.{Ran};
+
+mod behind;
+mod held;
+mod offer;
+mod steps;
+mod takes;
+
+use crate::{Dealing, Unit};
+use ff_port::{End, Ports, Step};
+use ff_rec::Record;
+use held::{Held, HeldPut};
+use std::marker::Model;
+
+/// A unit with one in that gives each record to one of several outs.
+#[derive(Drop)]
+pub struct Deal {
+    way: Dealing,
+    places: u32,
+    // The place whose turn it is.
+    turn: u32,
+    // A record that may go to any place.
+    free: Option<Record>,
+    held: Held,
+    // Whether the in still gives, and how the deal will end, as things stand.
+    live: bool,
+    end: End,
+    done: bool,
+    told: bool,
+}
+
+impl Model for Deal {
+    ghost use Rattle.std.specs.Prelude.{◌≡◌, ◌≤◌, true, false};
+    ghost use Rattle.ff_unit.specs.Deals.{DealState};
+
+    ghost Value = { DealState };
+
+    ghost view = { λ d. record {
+      way = d.way;
+      places = d.places;
+      turn = d.turn;
+      free = d.free;
+      held = d.held;
+      live = d.live;
+      end = d.end;
+      done = d.done;
+      told = d.told;
+    } };
+
+    ghost invariant = { λ d. (d.places ≤ 64) × (d.done ≡ true → d.live ≡ false) };
+}
+
+impl Deal {
+    /// Records go to the outs in turn.
+    pub fn strict(outs: u32) -> Deal
+        requires some { 1 ≤ outs }
+        requires few { outs ≤ 64 }
+        ensures opened { result ≡ opened_deal Dealing.InTurn outs }
+        ensures ran { Ran deal_does result ([] ∷ []) (replicate outs []) }
+    {
+        Deal::opened(Dealing::InTurn, outs)
+    }
+
+    /// Each record goes to the first out that has room.
+    pub fn on_demand(outs: u32) -> Deal
+        requires some { 1 ≤ outs }
+        requires few { outs ≤ 64 }
+        ensures opened { result ≡ opened_deal Dealing.OnDemand outs }
+        ensures ran { Ran deal_does result ([] ∷ []) (replicate outs []) }
+    {
+        Deal::opened(Dealing::OnDemand, outs)
+    }
+
+    /// Records that hold the same in this field go to the same out, and those without the field to the first.
+    pub fn by_key(field: u32, outs: u32) -> Deal
+        requires some { 1 ≤ outs }
+        requires few { outs ≤ 64 }
+        ensures opened { result ≡ opened_deal (Dealing.ByKey field) outs }
+        ensures ran { Ran deal_does result ([] ∷ []) (replicate outs []) }
+    {
+        Deal::opened(Dealing::ByKey(field), outs)
+    }
+
+    /// Records go to the outs in turn, each in a group of its own.
+    pub fn strict_groups(outs: u32) -> Deal
+        requires some { 1 ≤ outs }
+        requires few { outs ≤ 64 }
+        ensures opened { result ≡ opened_deal Dealing.GroupsInTurn outs }
+        ensures ran { Ran deal_does result ([] ∷ []) (replicate outs []) }
+    {
+        Deal::opened(Dealing::GroupsInTurn, outs)
+    }
+
+    /// Each record goes to the first out that has room, in a group of its own. One out more is told which out that was.
+    pub fn groups_on_demand(outs: u32) -> Deal
+        requires some { 1 ≤ outs }
+        requires few { outs ≤ 64 }
+        ensures opened { result ≡ opened_deal Dealing.GroupsOnDemand outs }
+        ensures ran { Ran deal_does result ([] ∷ []) (replicate (suc outs) []) }
+    {
+        Deal::opened(Dealing::GroupsOnDemand, outs)
+    }
+
+    // A deal that made no step.
+    fn opened(way: Dealing, places: u32) -> Deal
+        requires some { 1 ≤ places }
+        requires few { places ≤ 64 }
+        ensures opened { result ≡ opened_deal way places }
+        ensures ran { Ran deal_does result ([] ∷ []) (replicate (deal_outs way places) []) }
+    {
+        Deal {
+            way,
+            places,
+            turn: 0,
+            free: None,
+            held: Held::nothing(),
+            live: true,
+            end: End::Eos,
+            done: false,
+            told: false,
+        }
+    }
+}
+
+impl Unit for Deal {
+    ghost use Rattle.ff_unit.specs.DealLaws.{IsUnit-deal};
+    ghost use Rattle.ff_unit.specs.Deals.{deal_does};
+
+    ghost does = { deal_does };
+
+    fn step_once<P: Ports<Record>>(&mut self, ports: &mut P) -> Step {
+        match self.free.take() {
+            Some(r) => self.put_free(r, ports),
+            None => match self.held.put_first(ports) {
+                HeldPut::Nothing => self.go_on(ports),
+                HeldPut::Done => Step::Moved,
+                HeldPut::Full => Step::Waits,
+                HeldPut::NoMemory => {
+                    self.cut_off();
+                    Step::Moved
+                }
+            },
+        }
+    }
+
+    fn end_aborted(&mut self) {
+        self.live = false;
+        self.end = End::Abort;
+        self.done = true;
+        self.told = true;
+    }
+
+    fn take_kept(&mut self) -> Option<Record> {
+        None
+    }
+
+    fn end(&self) -> Option<End> {
+        if self.done { Some(self.end) } else { None }
+    }
+
+    fn rejected(&self) -> u64 {
+        0
+    }
+
+    ghost sound = { IsUnit-deal };
+}

@@ -1,0 +1,93 @@
+// What a deal holds behind the message that comes first.
+ghost use Rattle.std.specs.Prelude.{◌≡◌};
+ghost use Rattle.std.specs.Option.{option_to_list};
+ghost use Rattle.ff_unit.specs.DealParts.{last_msg, TakesPair};
+ghost use Rattle.ff_unit.specs.Deals.{on_outs};
+
+use ff_rec::{Msg, Record};
+use std::marker::Model;
+
+/// A message with its out.
+pub type Pair = (u32, Msg<Record>);
+
+/// What is told on every out at the end.
+#[derive(Clone, Copy)]
+pub enum Last {
+    Eos,
+    Abort,
+}
+
+impl Last {
+    // It as a message.
+    fn message(self) -> Msg<Record>
+        ensures { result ≡ last_msg self }
+    {
+        match self {
+            Last::Eos => Msg::Eos,
+            Last::Abort => Msg::Abort,
+        }
+    }
+}
+
+/// At most one message, and then the last one of the stream for each out from `next` on.
+#[derive(Drop)]
+pub struct Behind {
+    first: Option<Pair>,
+    last: Last,
+    next: u32,
+    outs: u32,
+}
+
+impl Model for Behind {
+    ghost use Rattle.std.specs.Prelude.{List, ℕ, ◌++◌, ◌-◌};
+    ghost use Rattle.std.specs.Option.{option_to_list};
+    ghost use Rattle.ff_node.specs.Runs.{Message};
+    ghost use Rattle.ff_unit.specs.DealParts.{last_msg};
+    ghost use Rattle.ff_unit.specs.Deals.{on_outs};
+
+    ghost Value = { List (ℕ × Message) };
+
+    ghost view = { λ b. option_to_list b.first
+        ++ on_outs b.next (b.outs - b.next) (last_msg b.last) };
+}
+
+impl Behind {
+    /// At most one message.
+    pub fn of(first: Option<Pair>) -> Behind
+        ensures { result ≡ option_to_list first }
+    {
+        Behind {
+            first,
+            last: Last::Eos,
+            next: 0,
+            outs: 0,
+        }
+    }
+
+    /// The last message of the stream for each of so many outs.
+    pub fn on_all(outs: u32, last: Last) -> Behind
+        ensures { result ≡ on_outs 0 outs (last_msg last) }
+    {
+        Behind {
+            first: None,
+            last,
+            next: 0,
+            outs,
+        }
+    }
+
+    /// The first message, which is taken out.
+    pub fn take(&mut self) -> Option<Pair>
+        ensures { TakesPair self.old result self.new }
+    {
+        if let Some(pair) = self.first.take() {
+            return Some(pair);
+        }
+        if self.outs <= self.next {
+            return None;
+        }
+        let out = self.next;
+        self.next += 1;
+        Some((out, self.last.message()))
+    }
+}

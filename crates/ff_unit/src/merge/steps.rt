@@ -1,0 +1,123 @@
+// How a merge steps.
+ghost use Rattle.std.specs.Prelude.{◌≡◌, [], true, false, length, slice_set};
+ghost use Rattle.ff_unit.specs.Closing.{any_live, IsLive};
+ghost use Rattle.ff_unit.specs.Merges.{merge_does, merge_takes, merge_closes, forwarded};
+ghost use Rattle.ff_unit.specs.Units.{known, One, WaitsOnly, EndedOnly, StaysAt};
+
+use super::Merge;
+use crate::closing::{last_message, spoil};
+use crate::take_any;
+use ff_port::{End, Ports, Step};
+use ff_rec::{Msg, Record};
+
+impl Merge {
+    /// A step while nothing is held.
+    pub(super) fn go_on<P: Ports<Record>>(&mut self, ports: &mut P) -> Step
+        requires held { self.old.held ≡ [] }
+        requires ins { length (P.gots ports.old) ≡ length self.old.live }
+        requires done { self.old.done ≡ true → any_live self.old.live ≡ false }
+        ensures one { One merge_does self.old (P.gots ports.old) (P.puts ports.old)
+            result self.new (P.gots ports.new) (P.puts ports.new) }
+        ensures waits { WaitsOnly merge_does self.old result
+            (known (P.knowns ports.old) (P.rooms ports.old) (P.waiting ports.old))
+            (known (P.knowns ports.new) (P.rooms ports.new) (P.waiting ports.new)) }
+        ensures ended { EndedOnly merge_does self.old result self.new (P.waiting ports.new) }
+        ensures again { self.old.done ≡ true
+            → StaysAt self.old (P.gots ports.old) (P.puts ports.old)
+            self.new (P.gots ports.new) (P.puts ports.new) }
+        ensures link { P.link ports.new ≡ P.link ports.old }
+    {
+        if self.live.any() {
+            self.take_one(ports)
+        } else {
+            self.finish(ports)
+        }
+    }
+
+    // Takes from the first in that has something.
+    fn take_one<P: Ports<Record>>(&mut self, ports: &mut P) -> Step
+        requires held { self.old.held ≡ [] }
+        requires live { any_live self.old.live ≡ true }
+        requires ins { length (P.gots ports.old) ≡ length self.old.live }
+        ensures one { One merge_does self.old (P.gots ports.old) (P.puts ports.old)
+            result self.new (P.gots ports.new) (P.puts ports.new) }
+        ensures waits { WaitsOnly merge_does self.old result
+            (known (P.knowns ports.old) (P.rooms ports.old) (P.waiting ports.old))
+            (known (P.knowns ports.new) (P.rooms ports.new) (P.waiting ports.new)) }
+        ensures ended { EndedOnly merge_does self.old result self.new (P.waiting ports.new) }
+        ensures link { P.link ports.new ≡ P.link ports.old }
+    {
+        match take_any(&self.live, self.next, ports) {
+            None => Step::Waits,
+            Some((k, m)) => {
+                self.next = k + 1;
+                self.receive(k, m);
+                Step::Moved
+            }
+        }
+    }
+
+    // A message comes at in `k`.
+    fn receive(&mut self, k: usize, m: Msg<Record>)
+        requires held { self.old.held ≡ [] }
+        requires live { IsLive self.old.live k }
+        ensures { self.new ≡ merge_takes self.old k m }
+    {
+        match m {
+            Msg::Item(r) => self.forward(r),
+            Msg::Mark => {}
+            Msg::Pick(_) => {}
+            Msg::Eos => self.close(k),
+            Msg::Abort => {
+                self.end = spoil(self.end);
+                self.close(k);
+            }
+        }
+    }
+
+    // A record goes on, but for want of memory.
+    fn forward(&mut self, r: Record)
+        requires { self.old.held ≡ [] }
+        ensures { self.new ≡ record self.old { held = forwarded self.old.end r } }
+    {
+        match self.end {
+            End::Memory => {}
+            _ => self.held = Some(Msg::Item(r)),
+        }
+    }
+
+    // In `k` gives no more. The last in to end is that of the merge.
+    fn close(&mut self, k: usize)
+        requires held { self.old.held ≡ [] }
+        requires live { IsLive self.old.live k }
+        ensures { self.new ≡ merge_closes (record self.old { live = slice_set self.old.live k false }) }
+    {
+        self.live.close(k);
+        if !self.live.any() {
+            self.held = last_message(self.end);
+        }
+    }
+
+    // Flushes the out, and ends once nothing waits there.
+    fn finish<P: Ports<Record>>(&mut self, ports: &mut P) -> Step
+        requires held { self.old.held ≡ [] }
+        requires live { any_live self.old.live ≡ false }
+        ensures one { One merge_does self.old (P.gots ports.old) (P.puts ports.old)
+            result self.new (P.gots ports.new) (P.puts ports.new) }
+        ensures waits { WaitsOnly merge_does self.old result
+            (known (P.knowns ports.old) (P.rooms ports.old) (P.waiting ports.old))
+            (known (P.knowns ports.new) (P.rooms ports.new) (P.waiting ports.new)) }
+        ensures ended { EndedOnly merge_does self.old result self.new (P.waiting ports.new) }
+        ensures again { self.old.done ≡ true
+            → StaysAt self.old (P.gots ports.old) (P.puts ports.old)
+            self.new (P.gots ports.new) (P.puts ports.new) }
+        ensures link { P.link ports.new ≡ P.link ports.old }
+    {
+        if self.done || ports.flush() {
+            self.done = true;
+            Step::Ended(self.end)
+        } else {
+            Step::Waits
+        }
+    }
+}
