@@ -7,7 +7,8 @@ use Rattle.std.specs.Prelude.{option_map}
 use Rattle.ff_rec.specs.Limits.{IsWithin, limit}
 use Rattle.ff_rec.specs.Lines.{tabs, joined, line_of, lines, text}
 use Rattle.ff_rec.specs.Number.{printed}
-use Rattle.ff_rec.specs.Reading.{Reading, opening, after, next}
+use Rattle.ff_rec.specs.Reading.{Reading, opening, after}
+use Rattle.ff_rec.specs.ReadingLaws.{after-append}
 use Rattle.ff_rec.specs.declared.fault.FeedFault.TheVariants.{Line}
 use Rattle.ff_rec.specs.declared.fault.LineFault.{LineFault}
 use Rattle.ff_rec.proofs.Feeding.{after-stays}
@@ -66,11 +67,7 @@ All-lines l i (suc k) most =
 pub limit-text : (l most n : ℕ) → 7 ≤ l → 8 * n ≤ most → limit l most (text (records_behind 0 n)) ≡ None
 limit-text l most n long room = (limit-law l most (text (records_behind 0 n))).1 (omega (arith, length-text 0 n), All-lines l 0 n long)
 
-after-append : (s : Reading) (xs ys : List ℕ) → after s (xs ++ ys) ≡ after (after s xs) ys
-after-append s [] ys = refl
-after-append s (x ∷ xs) ys = after-append (next s.fault s x) xs ys
-
--- nor does a text that it goes on
+-- nor does any front of it
 pub limit-front : (l most : ℕ) (xs ys : List ℕ) → limit l most (xs ++ ys) ≡ None → limit l most xs ≡ None
 limit-front l most xs ys none = by (limit l most xs) refl
   where

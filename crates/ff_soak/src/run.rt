@@ -45,7 +45,16 @@ pub fn soak<R: Wait + Clone + Drop + Send + 'static, S: Spawner<NetJob<NetUnit<O
     let checked = soak_network(alloc, workers)?;
     let mut source = SoakSource::new(alloc, n)?;
     let mut sink = HeldSink::new(alloc);
-    let answer = run_net(rt, alloc, &checked, cap, false, &mut source, &mut sink, spawner);
+    let answer = run_net(
+        rt,
+        alloc,
+        &checked,
+        cap,
+        false,
+        &mut source,
+        &mut sink,
+        spawner,
+    );
     match answer {
         Ok(_) => Ok(summarize(n, sink.taken())),
         Err(fault) => Err(told(fault)),

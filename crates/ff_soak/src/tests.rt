@@ -48,6 +48,9 @@ fn a_summary_in_lines(rt: HostRuntime) -> Result<(), Fail> {
     };
     let mut lines = Vec::new(rt.alloc());
     print_summary(&summary, &mut lines)?;
-    assert_eq!(rt; lines.as_slice(), b"records 3\nkeys 3\ntotal 5106\n".as_slice());
+    assert_eq!(rt;
+        lines.as_slice(),
+        b"records 3\nkeys 3\ntotal 5106\n".as_slice()
+    );
     Ok(())
 }

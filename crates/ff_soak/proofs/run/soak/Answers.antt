@@ -28,7 +28,7 @@ returns-in-Ok-clause-work g c =
     let ran = c.run_net-answer.new in
     let work = c.in-Ok.ensures.work 0 in
     let all = length-run (tree_of checked.net) checked.version 0 c.args.workers c.args.n c.in_ok-source.source ran.source c.new-sink.result ran.sink c.in-Ok.field-0
-        c.requires.records c.in_ok-checked.ensures c.in_ok-source.ensures c.new-sink.ensures work.run c.in-Ok.ensures.input_faults in
+    c.requires.records c.in_ok-checked.ensures c.in_ok-source.ensures c.new-sink.ensures work.run c.in-Ok.ensures.input_faults in
     subst (λ k. RoseBy k (g.S.Refusals.worked c.args.spawner.now) (g.S.Refusals.worked ran.spawner)) (ap₂ (λ a b. a + b) (ap units c.in_ok-checked.ensures) all) work.told
 
 pub told-requires : goal.told-requires
