@@ -9,13 +9,9 @@ use Rattle.ff_rec.specs.Lines.{Rec}
 use Rattle.ff_rec.specs.Streams.{carried, closed}
 use Rattle.ff_rec.specs.Weights.{weigh}
 use Rattle.ff_node.specs.Behaviour.{Behaviour}
-use Rattle.ff_node.specs.Comb.{comb_node}
-use Rattle.ff_node.specs.CombClassLaws.{comb_class_law}
-use Rattle.ff_node.specs.CombKindLaws.{comb_keeps_kind}
 use Rattle.ff_node.specs.Runs.{Message}
 use Rattle.ff_net.specs.Counts.{units}
-use Rattle.ff_net.specs.Forms.{has_copies}
-use Rattle.ff_net.specs.Nodes.{node_groups}
+use Rattle.ff_net.specs.Forms.{has_wrap}
 use Rattle.ff_net.specs.Tree.{Tree}
 use Rattle.ff_plan.specs.Laying.{units_of}
 use Rattle.ff_plan.specs.Plans.{rows_of}
@@ -23,12 +19,18 @@ use Rattle.ff_plan.specs.Rows.{Laid, Row}
 use Rattle.ff_plan.proofs.LaidUnits.{length-rows_of}
 use Rattle.ff_plan.proofs.WeighedIns.{ins-lay}
 use Rattle.ff_plan.proofs.WeighedRows.{weigh_ins}
+use Rattle.ff_plan.specs.declared.kind.UnitKind.{UnitKind}
+use Rattle.ff_plan.specs.declared.kind.UnitKind.TheVariants.{Stage, DealRr, DealOd, DealBy, Merge, ODealRr, ODealOd, OMergeTurn, OMergePick, Master, Worker}
+use Rattle.ff_plan.specs.WiringLaws.{unit_ins}
+use Rattle.ff_plan.proofs.JoinedUnits.{is_joined}
+use Rattle.ff_steps.specs.NetUnits.{net_does}
 use Rattle.ff_steps.specs.OverEdges.{RanAlong}
+use Rattle.ff_steps.proofs.Heads.{head-same, tail-same, cons≢nil}
+use Rattle.ff_steps.proofs.OverEnds.{HasEndedWell}
+use Rattle.ff_steps.proofs.Ports.{each-port}
+use Rattle.ff_steps.proofs.Shapes.{IsShaped, HasShape, shapes-lay}
 use Rattle.ff_steps.proofs.MessageLists.{closed-front}
-use Rattle.ff_steps.proofs.PlanStages.{AreStages, AreStages-lay, IsStageOf, OnIns, OnIns-lay}
-use Rattle.ff_steps.proofs.StageEnds.{HasEnded, HasPassed, HasPassed-ran}
-use Rattle.ff_unit.specs.StageUnit.{stage_does}
-use Rattle.ff_unit.specs.Units.{Ran}
+use Rattle.ff_unit.specs.Units.{Doing, IsUnit, Ran}
 use Rattle.ff_engine.specs.Jobs.{JobState, handled}
 use Rattle.ff_engine.specs.Lines.{HasMoved}
 use Rattle.ff_engine.specs.Networks.{HasLaws, UnitOf}
@@ -55,51 +57,69 @@ weigh-rows h (l ∷ ls) = ap (λ n. h l.row + n) (weigh-rows h ls)
 abbrev inner : (ℕ → List Message) → ℕ → ℕ
 inner got e = length (got e) - 1
 
-module _ {N : Type 0} (b : Behaviour N) (net : Tree N) (laws : HasLaws b net) (whole : has_copies net ≡ false) (got put : ℕ → List Message) where
+-- a unit has an in at least
+some_ins : (is_of : UnitKind) (n k : ℕ) → IsShaped is_of n k → 1 ≤ n
+some_ins Stage n k shape = omega (arith, shape.0)
+some_ins DealRr n k shape = omega (arith, shape.0)
+some_ins DealOd n k shape = omega (arith, shape.0)
+some_ins (DealBy f) n k shape = omega (arith, shape.0)
+some_ins Merge n k shape = shape.0.0
+some_ins ODealRr n k shape = omega (arith, shape.0)
+some_ins ODealOd n k shape = omega (arith, shape.0)
+some_ins OMergeTurn n k shape = shape.0.0
+some_ins OMergePick n k shape = omega (arith, shape.0.is)
+some_ins Master n k shape = absurd shape
+some_ins Worker n k shape = absurd shape
+
+module _ (got put : ℕ → List Message) where
   -- an edge from which all was got that was put there
   record IsShut (e : ℕ) : Type 0 where
     pub front : List Message
     pub is : got e ≡ closed front
 
-  shut-stage : (l : Laid N) (g : List N) (u : UnitOf N) → (stage : IsStageOf l g) → Ran (stage_does (comb_node b)) u (map got l.row.ins) (map put l.row.outs) → HasEnded u → IsShut stage.from
-  shut-stage l g u stage ran ended = record { front = passed.ins; is = passed.got_is }
-    where
-      passed : HasPassed (comb_node b) u.node (got stage.from) (put stage.to)
-      passed = HasPassed-ran (comb_node b) (comb_keeps_kind b laws.kind) (comb_class_law b laws.class) u (got stage.from) (put stage.to)
-          (subst (λ (x : Laid N). Ran (stage_does (comb_node b)) u (map got x.row.ins) (map put x.row.outs)) stage.is ran) ended.0 ended.1
+  shut-ins : (es : List ℕ) (mss : List (List Message)) → map got es ≡ map closed mss → AllByRecursion IsShut es
+  shut-ins [] mss are = tt
+  shut-ins (e ∷ es) [] are = absurd (cons≢nil are)
+  shut-ins (e ∷ es) (ms ∷ mss) are = (record { front = ms; is = head-same are }, shut-ins es mss (tail-same are))
 
-  shut-stages : (ls : List (Laid N)) (groups : List (List N)) (us : List (UnitOf N)) → AreStages ls groups
-      → RanAlong (stage_does (comb_node b)) got put (map (λ (l : Laid N). l.row) ls) us → AllByRecursion HasEnded us → OnIns IsShut ls
-  shut-stages [] groups us are ran ended = tt
-  shut-stages (l ∷ ls) [] us are ran ended = absurd are
-  shut-stages (l ∷ ls) (g ∷ groups) [] are ran ended = absurd ran
-  shut-stages (l ∷ ls) (g ∷ groups) (u ∷ us) are ran ended = (
-    subst (λ (x : Laid N). AllByRecursion IsShut x.row.ins) (sym are.0.is) (shut-stage l g u are.0 ran.0 ended.0, tt),
-    shut-stages ls groups us are.1 ran.1 ended.1,
-  )
+  -- units that have ended with their ins got an end from each of them
+  shut-along : {U : Type 0} (d : Doing U) → IsUnit d → (rows : List Row) (us : List U) → RanAlong d got put rows us → AllByRecursion (HasEndedWell d) us
+      → AllByRecursion (AllByRecursion IsShut) (unit_ins rows)
+  shut-along d laws [] us ran ended = tt
+  shut-along d laws (row ∷ rows) [] ran ended = absurd ran
+  shut-along d laws (row ∷ rows) (u ∷ us) ran ended =
+      let whole = laws.whole u (map got row.ins) (map put row.outs) ran.0 ended.0.0 ended.0.1 in
+      (shut-ins row.ins whole.ins whole.gots_are, shut-along d laws rows us ran.1 ended.1)
+
+  -- so many ends, and what stands before them
+  weigh-shut : (es : List ℕ) → AllByRecursion IsShut es → weigh (λ e. length (got e)) es ≡ length es + weigh (inner got) es
+  weigh-shut [] shut = refl
+  weigh-shut (e ∷ es) shut =
+      let some : length (got e) ≡ length shut.0.front + 1 = ap length shut.0.is ∙ length-append shut.0.front _ in
+      omega (arith, some, weigh-shut es shut.1)
 
   -- each unit got an end at least
-  ends-got : (ls : List (Laid N)) (groups : List (List N)) → AreStages ls groups → OnIns IsShut ls
-      → weigh_ins (λ e. length (got e)) ls ≡ length ls + weigh_ins (inner got) ls
-  ends-got [] groups are shut = refl
-  ends-got (l ∷ ls) [] are shut = absurd are
-  ends-got (l ∷ ls) (g ∷ groups) are shut =
-      let from = are.0.from in
-      let at : IsShut from = (subst (λ (x : Laid N). AllByRecursion IsShut x.row.ins) are.0.is shut.0).0 in
-      let some : length (got from) ≡ length at.front + 1 = ap length at.is ∙ length-append at.front _ in
-      let all : weigh (λ e. length (got e)) l.row.ins ≡ length (got from) + 0 = ap (λ (x : Laid N). weigh (λ e. length (got e)) x.row.ins) are.0.is in
-      let inners : weigh (inner got) l.row.ins ≡ inner got from + 0 = ap (λ (x : Laid N). weigh (inner got) x.row.ins) are.0.is in
-      omega (arith, some, all, inners, ends-got ls groups are.1 shut.1)
+  ends-got : {N : Type 0} (ls : List (Laid N)) → AllByRecursion HasShape ls → AllByRecursion (AllByRecursion IsShut) (unit_ins (map (λ (l : Laid N). l.row) ls))
+      → length ls + weigh_ins (inner got) ls ≤ weigh_ins (λ e. length (got e)) ls
+  ends-got [] shapes shut = omega arith
+  ends-got (l ∷ ls) shapes shut =
+      omega (
+        arith,
+        some_ins l.row.kind (length l.row.ins) (length l.row.outs) shapes.0,
+        weigh-shut l.row.ins shut.0,
+        ends-got ls shapes.1 shut.1,
+      )
 
+module _ {N : Type 0} (b : Behaviour N) (units_laws : IsUnit (net_does b)) (net : Tree N) (laws : HasLaws b net) (free : has_wrap net ≡ false) (got put : ℕ → List Message) where
   -- an end for each unit, and all records
   pub handled-all : (us : List (UnitOf N)) (jobs : List (JobState (UnitOf N))) → All (λ job. HasMoved got put job) jobs → map (λ job. job.row) jobs ≡ rows_of net
-      → RanAlong (stage_does (comb_node b)) got put (rows_of net) us → AllByRecursion HasEnded us
+      → RanAlong (net_does b) got put (rows_of net) us → AllByRecursion (HasEndedWell (net_does b)) us
       → (xs : List Rec) (rest : List Message) → put 0 ≡ got 0 ++ rest → put 0 ≡ closed (carried xs)
       → counted (units net + length xs) ≤ sum_by handled jobs
   handled-all us jobs moved rows ran ended xs rest first fed =
-      let are = AreStages-lay [] net 0 1 2 whole in
-      let shut = shut-stages (units_of net) (node_groups net) us are ran ended in
-      let fed_shut : IsShut 0 = OnIns-lay b IsShut [] net 0 1 2 whole laws.good shut in
+      let shut = shut-along got put (net_does b) units_laws (rows_of net) us ran ended in
+      let j = (is_joined b net laws.good).read 0 (omega arith) (λ is. omega (arith, is)) in
+      let fed_shut : IsShut got put 0 = each-port (IsShut got put) (unit_ins (rows_of net)) 0 j.party j.port shut j.at in
       let front : fed_shut.front ≡ carried xs =
       closed-front fed_shut.front rest xs (ap (λ ms. ms ++ rest) (sym fed_shut.is) ∙ sym first ∙ fed) in
       let records : length (got 0) ≡ length xs + 1 =
@@ -111,7 +131,7 @@ module _ {N : Type 0} (b : Behaviour N) (net : Tree N) (laws : HasLaws b net) (w
         arith,
         handled-moved got put jobs moved,
         weight,
-        ends-got (units_of net) (node_groups net) are shut,
+        ends-got got put (units_of net) (shapes-lay b net free laws.good [] 0 1 2) shut,
         ins-lay (inner got) b net laws.good [] 0 1 2,
         records,
         many,

@@ -4,9 +4,10 @@ pub mod BoardLaws
 pub mod Settlings
 pub mod PlanEdges
 pub mod Finished
-pub mod Stages
+pub mod Opened
 pub mod Callings
 pub mod Handled
 pub mod LineRuns
 pub mod LineEnds
 pub mod NetStarts
+pub mod NetLaws

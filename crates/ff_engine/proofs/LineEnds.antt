@@ -11,11 +11,11 @@ use Rattle.ff_rec.specs.Lines.{Rec, line_of, text}
 use Rattle.ff_rec.specs.Streams.{IsOpen, items, carried}
 use Rattle.ff_rec.specs.declared.msg.Msg.TheVariants.{Item, Eos, Abort}
 use Rattle.ff_node.specs.Behaviour.{Behaviour}
-use Rattle.ff_node.specs.Comb.{comb_node}
 use Rattle.ff_node.specs.Runs.{Message}
 use Rattle.ff_port.specs.declared.answers.End.{End}
 use Rattle.ff_port.specs.declared.answers.End.TheVariants.{Eos as EndEos}
 use Rattle.ff_ring.specs.Bundles.{ahead_of}
+use Rattle.ff_steps.specs.NetUnits.{net_does}
 use Rattle.ff_stream.specs.Endings.{halted}
 use Rattle.ff_stream.specs.Jobs.{Job}
 use Rattle.ff_stream.specs.Works.{Ends, HasBroken, Halts, IsOpen as IsOpenRun}
@@ -24,7 +24,6 @@ use Rattle.ff_stream.specs.declared.fault.Halt.{Halt}
 use Rattle.ff_stream.specs.declared.fault.Halt.TheVariants.{Write, NoMemory}
 use Rattle.ff_stream.specs.declared.fault.RunFault.{RunFault}
 use Rattle.ff_unit.specs.MessageLaws.{IsOpen-carried, items-append}
-use Rattle.ff_unit.specs.StageUnit.{stage_does}
 use Rattle.ff_unit.specs.Units.{end_of}
 use Rattle.ff_engine.specs.Callers.{CallerState, Moves, Breaks, SameRings, EndsOnce, EndsWithEos, TakesMore}
 use Rattle.ff_engine.specs.Conclusions.{Concludes}
@@ -120,7 +119,7 @@ Ends-halted j NoMemory xs front t t' broken = broken
 
 module _ {N : Type 0} (b : Behaviour N) (j : Job N) (c c' : CallerState)
     (jobs : List (JobState (UnitOf N))) (xs : List Rec) (front : List ℕ) (at : HasFed b j c jobs xs front) (before : List Message) (us : List (UnitOf N)) (taken : List Message)
-    (worked worked' : ℕ) (joined : IsJoined (stage_does (comb_node b)) before jobs us taken worked worked') (puts : before ≡ c'.put) (gots : taken ≡ c'.got)
+    (worked worked' : ℕ) (joined : IsJoined (net_does b) before jobs us taken worked worked') (puts : before ≡ c'.put) (gots : taken ≡ c'.got)
     (t t' : Option (List ℕ)) where
   once : EndsOnce c.put c'.put → EndsOnce (carried xs) before
   once ends = subst (λ ms. EndsOnce (carried xs) ms) (sym puts) (subst (λ ms. EndsOnce ms c'.put) at.put ends)
@@ -145,24 +144,24 @@ module _ {N : Type 0} (b : Behaviour N) (j : Job N) (c c' : CallerState)
         (ap (λ ms. text (items ms)) gots ∙ moved.shows front at.shows);
   }
 
-  module _ (put : c'.put ≡ c.put ++ Eos ∷ []) (all : list_all (λ u. ends_by_eos (end_of (stage_does (comb_node b)) u)) us ≡ true) where
+  module _ (put : c'.put ≡ c.put ++ Eos ∷ []) (all : list_all (λ u. ends_by_eos (end_of (net_does b) u)) us ≡ true) where
     closed-put : before ≡ carried xs ++ Eos ∷ []
     closed-put = puts ∙ put ∙ ap (λ ms. ms ++ Eos ∷ []) at.put
 
     -- all that comes was shown, to the end
-    pub Ends-ended : (report : Report) → EndsWithEos c'.got → Moves c c' t t' → c'.text ≡ [] → report.rejected ≡ counted (sum_by (λ u. u.rejects) us)
-        → report.kept ≡ flat_map (λ u. u.kept) us → Ends j xs front t t' (Ok report)
+    pub Ends-ended : (report : Report) → EndsWithEos c'.got → Moves c c' t t' → c'.text ≡ [] → report.rejected ≡ counted (sum_by (net_does b).rejects us)
+        → report.kept ≡ flat_map (net_does b).kept us → Ends j xs front t t' (Ok report)
     Ends-ended report eos moved shown number kept =
-        RunEnded-joined b j jobs at.made before us taken worked worked' joined xs closed-put (AllEnded (comb_node b) us all) report number kept
+        RunEnded-joined b j jobs at.made before us taken worked worked' joined xs closed-put (AllEnded b us all) report number kept
         front (ahead_of (Eos ∷ []) c'.got) moved.written (gots ∙ eos)
         (ap (λ ms. text (items ms)) gots ∙ moved.shows front at.shows ∙ ap (λ l. (front ++ moved.written) ++ l) shown ∙ append-nil (front ++ moved.written)) t t' moved.taken
 
     -- and the jobs handled all records
     pub WorkedThrough-ended : WorkedThrough j xs worked worked'
-    WorkedThrough-ended = WorkedThrough-joined b j jobs at.made before us taken worked worked' joined xs closed-put (AllEnded (comb_node b) us all)
+    WorkedThrough-ended = WorkedThrough-joined b j jobs at.made before us taken worked worked' joined xs closed-put (AllEnded b us all)
 
   -- however it ended
-  pub Ends-concluded : {A : Type 0} (shown : Result A Halt) (end : Option End) (answer : Result Report RunFault) → Concludes (stage_does (comb_node b)) shown end us answer
+  pub Ends-concluded : {A : Type 0} (shown : Result A Halt) (end : Option End) (answer : Result Report RunFault) → Concludes (net_does b) shown end us answer
       → (end ≡ Some EndEos → EndsWithEos c'.got) → OnOk shown (c'.put ≡ c.put ++ Eos ∷ []) → OnOk shown (Moves c c' t t') → OnOk shown (c'.text ≡ [])
       → OnErr shown (EndsOnce c.put c'.put) → OnErr shown (Breaks c c' t t') → Ends j xs front t t' answer
   Ends-concluded (Err halt) end answer concluded eos put moved shown ends broke =
@@ -173,7 +172,7 @@ module _ {N : Type 0} (b : Behaviour N) (j : Job N) (c c' : CallerState)
       subst (λ (f : RunFault). Ends j xs front t t' (Err f)) (sym concluded) (Ends-short put moved)
 
   pub WorkedThrough-concluded : {A : Type 0} (shown : Result A Halt) (end : Option End) (answer : Result Report RunFault)
-      → Concludes (stage_does (comb_node b)) shown end us answer → OnOk shown (c'.put ≡ c.put ++ Eos ∷ []) → OnOk answer (WorkedThrough j xs worked worked')
+      → Concludes (net_does b) shown end us answer → OnOk shown (c'.put ≡ c.put ++ Eos ∷ []) → OnOk answer (WorkedThrough j xs worked worked')
   WorkedThrough-concluded (Err halt) end answer concluded put = subst (λ (a : Result Report RunFault). OnOk a (WorkedThrough j xs worked worked')) (sym concluded) tt
   WorkedThrough-concluded (Ok a) end (Ok report) concluded put = WorkedThrough-ended put concluded.units_ended
   WorkedThrough-concluded (Ok a) end (Err fault) concluded put = tt
@@ -181,8 +180,8 @@ module _ {N : Type 0} (b : Behaviour N) (j : Job N) (c c' : CallerState)
 -- the jobs handled all records, wherever a report came of it
 pub WorkedThrough-all : {N A : Type 0} (b : Behaviour N) (c c' : CallerState)
     (jobs : List (JobState (UnitOf N))) (before : List Message) (us : List (UnitOf N)) (taken : List Message)
-    (worked worked' : ℕ) → IsJoined (stage_does (comb_node b)) before jobs us taken worked worked' → before ≡ c'.put → taken ≡ c'.got
-    → (shown : Result A Halt) (end : Option End) (answer : Result Report RunFault) → Concludes (stage_does (comb_node b)) shown end us answer
+    (worked worked' : ℕ) → IsJoined (net_does b) before jobs us taken worked worked' → before ≡ c'.put → taken ≡ c'.got
+    → (shown : Result A Halt) (end : Option End) (answer : Result Report RunFault) → Concludes (net_does b) shown end us answer
     → OnOk shown (c'.put ≡ c.put ++ Eos ∷ [])
     → OnOk answer ((j : Job N) (xs : List Rec) (front : List ℕ) → HasFed b j c jobs xs front → WorkedThrough j xs worked worked')
 WorkedThrough-all b c c' jobs before us taken worked worked' joined puts gots shown end (Ok report) concluded put = λ j xs front at.
@@ -192,7 +191,7 @@ WorkedThrough-all b c c' jobs before us taken worked worked' joined puts gots sh
 -- where Abort was put behind the records
 pub IsOpen-stopped : {N : Type 0} (b : Behaviour N) (j : Job N) (halt : Halt) (c c' : CallerState)
     (jobs : List (JobState (UnitOf N))) (xs : List Rec) (front : List ℕ) → HasStopped b j c jobs xs front → (before : List Message) (us : List (UnitOf N)) (taken : List Message)
-    (worked worked' : ℕ) → IsJoined (stage_does (comb_node b)) before jobs us taken worked worked' → before ≡ c'.put → taken ≡ c'.got
+    (worked worked' : ℕ) → IsJoined (net_does b) before jobs us taken worked worked' → before ≡ c'.put → taken ≡ c'.got
     → c'.put ≡ c.put ++ Abort ∷ [] → (more : TakesMore c c') → IsOpenRun j halt xs front
 IsOpen-stopped b j halt c c' jobs xs front at before us taken worked worked' joined puts gots put more =
     IsOpen-joined b j jobs at.made before us taken worked worked' joined halt xs (puts ∙ put ∙ ap (λ ms. ms ++ Abort ∷ []) at.put)

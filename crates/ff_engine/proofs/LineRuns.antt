@@ -12,16 +12,12 @@ use Rattle.ff_rec.specs.declared.msg.Msg.TheVariants.{Eos as EosMsg, Abort as Ab
 use Rattle.ff_rec.specs.Weights.{Same}
 use Rattle.ff_rec.proofs.WeightLaws.{Same-trans, Same-sym, Same-≡}
 use Rattle.ff_node.specs.Behaviour.{Behaviour, KeepsKind}
-use Rattle.ff_node.specs.Comb.{comb_node, running}
-use Rattle.ff_node.specs.CombKindLaws.{comb_keeps_kind}
 use Rattle.ff_node.specs.Runs.{Message}
 use Rattle.ff_port.specs.declared.answers.End.{End}
 use Rattle.ff_port.specs.declared.answers.End.TheVariants.{Eos, Abort, Memory}
 use Rattle.ff_net.specs.Counts.{units}
 use Rattle.ff_net.specs.Forms.{has_wrap}
 use Rattle.ff_net.specs.Meaning.{mean_rejected, mean_rejected_count, Answers}
-use Rattle.ff_net.specs.Nodes.{node_groups}
-use Rattle.ff_net.proofs.NodeGroups.{has_wrap-whole}
 use Rattle.ff_plan.specs.PlanLaws.{BeginsAnswer}
 use Rattle.ff_plan.specs.Plans.{rows_of}
 use Rattle.ff_spawn.specs.Counts.{RoseBy}
@@ -30,9 +26,9 @@ use Rattle.ff_steps.proofs.Heads.{head-same, tail-same, cons≢nil}
 use Rattle.ff_steps.proofs.MessageLists.{closed-front, items-closed, carried-append}
 use Rattle.ff_steps.proofs.OverBegins.{BeginsAnswer-over}
 use Rattle.ff_steps.proofs.OverWhole.{HasAnswered-over}
-use Rattle.ff_steps.proofs.StageEnds.{HasEnded}
 use Rattle.ff_steps.specs.OverEdges.{HasAnswered, RanAlong, RanOver}
-use Rattle.ff_steps.specs.Units.{opened_units}
+use Rattle.ff_steps.specs.NetUnits.{net_does}
+use Rattle.ff_steps.proofs.OverEnds.{HasEndedWell}
 use Rattle.ff_stream.specs.Endings.{Begun, IsBeginning, IsReported}
 use Rattle.ff_stream.specs.FlowLaws.{Begun-beginning, no-wrap}
 use Rattle.ff_stream.specs.Jobs.{Job}
@@ -40,8 +36,6 @@ use Rattle.ff_stream.specs.Works.{HasEnded as RunEnded, IsOpen as IsOpenRun}
 use Rattle.ff_stream.specs.declared.ending.Report.{Report}
 use Rattle.ff_stream.specs.declared.fault.Halt.{Halt}
 use Rattle.ff_unit.specs.MessageLaws.{IsOpen-carried, items-append, unaborted-closed, unaborted-cut}
-use Rattle.ff_unit.specs.Stage.{StageState, opening_stage, started}
-use Rattle.ff_unit.specs.StageUnit.{stage_does}
 use Rattle.ff_unit.specs.Units.{Doing, end_of}
 use Rattle.ff_engine.specs.Crews.{IsJoined}
 use Rattle.ff_engine.specs.Ends.{ends_by_eos}
@@ -49,6 +43,8 @@ use Rattle.ff_engine.specs.Jobs.{JobState, handled}
 use Rattle.ff_engine.specs.Networks.{UnitOf, AreJobsOf}
 use Rattle.ff_engine.proofs.Finished.{openings-finished, rows-finished, taken-finished, RanAlong-finished}
 use Rattle.ff_engine.proofs.Handled.{handled-all}
+use Rattle.ff_engine.proofs.NetLaws.{IsUnit-laws}
+use Rattle.ff_engine.proofs.Opened.{opened-again, untaken}
 
 -- records that were put go on to all that follow, whether Abort was put behind them
 pub GoesOn-open : (before : List Message) (xs zs : List Rec) → before ≡ carried xs ++ AbortMsg ∷ [] → GoesOn (unaborted before) (carried (xs ++ zs))
@@ -75,39 +71,24 @@ ends-parts true (Some Memory) is = absurd (both_ways false refl is)
 ends-parts true None is = absurd (both_ways false refl is)
 ends-parts false fin is = absurd (both_ways false refl is)
 
-module _ {S : Type 0} (c : Behaviour S) where
-  pub AllEnded : (us : List (StageState S)) → list_all (λ u. ends_by_eos (end_of (stage_does c) u)) us ≡ true → AllByRecursion HasEnded us
+module _ {N : Type 0} (b : Behaviour N) where
+  abbrev d : Doing (UnitOf N)
+  d = net_does b
+
+  pub AllEnded : (us : List (UnitOf N)) → list_all (λ u. ends_by_eos (end_of (net_does b) u)) us ≡ true → AllByRecursion (HasEndedWell (net_does b)) us
   AllEnded [] all = tt
   AllEnded (u ∷ us) all =
-      let parts = and_parts (ends_by_eos (end_of (stage_does c) u)) (list_all (λ v. ends_by_eos (end_of (stage_does c) v)) us) all in
-      (ends-parts u.done u.fin parts.0, AllEnded us parts.1)
+      let parts = and_parts (ends_by_eos (end_of d u)) (list_all (λ v. ends_by_eos (end_of d v)) us) all in
+      (ends-parts (d.done u) (d.fin u) parts.0, AllEnded us parts.1)
 
-module _ {N : Type 0} (b : Behaviour N) where
-  -- a stage before its first step is what it was before its first step
-  opened-again : KeepsKind (comb_node b) → (keep : Bool) (groups : List (List N)) → map (opening_stage (comb_node b)) (opened_units b keep groups) ≡ opened_units b keep groups
-  opened-again kind keep [] = refl
-  opened-again kind keep (g ∷ groups) =
-      ap₂ (λ u us. u ∷ us) (ap (λ n. started n keep) (kind.opening_of_opening (running (map b.opening g)))) (opened-again kind keep groups)
-
-  -- no reject was taken out of one
-  untaken : (keep : Bool) (groups : List (List N)) → flat_map (λ (u : UnitOf N). u.taken) (opened_units b keep groups) ≡ []
-  untaken keep [] = refl
-  untaken keep (g ∷ groups) = untaken keep groups
-
-  flat-taken : (us vs : List (UnitOf N)) → map (λ u. u.taken) us ≡ map (λ u. u.taken) vs → flat_map (λ u. u.taken) us ≡ flat_map (λ u. u.taken) vs
+  flat-taken : (us vs : List (UnitOf N)) → map d.taken us ≡ map d.taken vs → flat_map d.taken us ≡ flat_map d.taken vs
   flat-taken [] [] same = refl
   flat-taken [] (v ∷ vs) same = absurd (cons≢nil (sym same))
   flat-taken (u ∷ us) [] same = absurd (cons≢nil same)
   flat-taken (u ∷ us) (v ∷ vs) same = ap₂ (λ l m. l ++ m) (head-same same) (flat-taken us vs (tail-same same))
 
-  abbrev d : Doing (UnitOf N)
-  d = stage_does (comb_node b)
-
   module _ (j : Job N) (was : List (JobState (UnitOf N))) (made : AreJobsOf b j was) (before : List Message) (us : List (UnitOf N)) (taken : List Message)
       (worked worked' : ℕ) (joined : IsJoined d before was us taken worked worked') where
-    kind : KeepsKind (comb_node b)
-    kind = comb_keeps_kind b made.laws.kind
-
     abbrev got : ℕ → List Message
     got = joined.settled.got
 
@@ -123,8 +104,8 @@ module _ {N : Type 0} (b : Behaviour N) where
     -- the units ran over the edges of the network's plan
     over : RanOver b j.keep j.net us got put
     over = record {
-      made = ap (map (opening_stage (comb_node b))) joined.units_are ∙ openings-finished d was joined.finished joined.each
-          ∙ ap (map (opening_stage (comb_node b))) made.units_are ∙ opened-again kind j.keep (node_groups j.net);
+      made = ap (map d.opening) joined.units_are ∙ openings-finished d was joined.finished joined.each
+          ∙ ap (map d.opening) made.units_are ∙ opened-again b j.keep made.laws.kind j.net made.whole made.laws.good;
       first = joined.settled.first;
       ran = ran;
     }
@@ -132,7 +113,7 @@ module _ {N : Type 0} (b : Behaviour N) where
     -- what was taken behind them is the first of an answer
     begins : (xs : List Rec) → GoesOn (unaborted before) (carried xs) → BeginsAnswer b j.tasks j.net xs (items (put 1))
     begins xs goes =
-        BeginsAnswer-over b made.laws.kind made.laws.class j.keep j.tasks j.net made.whole (made.laws.cut_runs j.tasks) us got put over xs
+        BeginsAnswer-over b made.laws.kind (IsUnit-laws b made.laws.kind made.laws.class) j.keep j.tasks j.net made.whole made.laws.good (made.laws.cut_runs j.tasks) us got put over xs
         (subst (λ ms. GoesOn (unaborted ms) (carried xs)) (sym joined.settled.fed) goes)
 
     -- the text of it begins an answer
@@ -156,7 +137,7 @@ module _ {N : Type 0} (b : Behaviour N) where
         → IsOpenRun j halt xs front
     IsOpen-joined halt xs put front back splits = record {
       begun = λ zs. Begun-beginning j halt (xs ++ zs) front (IsBeginning-joined (xs ++ zs) (GoesOn-open before xs zs put) front back splits);
-      waits = λ wraps. no-wrap (has_wrap j.net) (has_wrap-whole j.net made.whole) wraps;
+      waits = λ wraps. no-wrap (has_wrap j.net) made.whole wraps;
     }
 
     -- where it broke off at its end
@@ -170,12 +151,12 @@ module _ {N : Type 0} (b : Behaviour N) where
           | inr abort ↦ subst (λ l. GoesOn (unaborted before) (carried l)) (append-nil xs) (GoesOn-open before xs [] abort)
         ]
 
-    module _ (xs : List Rec) (put_is : before ≡ closed (carried xs)) (all : AllByRecursion HasEnded us) where
+    module _ (xs : List Rec) (put_is : before ≡ closed (carried xs)) (all : AllByRecursion (HasEndedWell (net_does b)) us) where
       fed : put 0 ≡ closed (carried xs)
       fed = joined.settled.fed ∙ put_is
 
       answered : HasAnswered b j.tasks j.keep j.net xs us put
-      answered = HasAnswered-over b made.laws.kind made.laws.class j.keep j.net made.whole made.laws.good us got put over all xs fed j.tasks (made.laws.whole_runs j.tasks)
+      answered = HasAnswered-over b made.laws.kind (IsUnit-laws b made.laws.kind made.laws.class) j.keep j.net made.whole made.laws.good us got put over all xs fed j.tasks (made.laws.whole_runs j.tasks)
 
       -- all that the network sends was taken, where Eos was
       items-joined : (front : List Message) → taken ≡ closed front → items taken ≡ answered.ys
@@ -186,25 +167,25 @@ module _ {N : Type 0} (b : Behaviour N) where
           ap items (is ∙ ap closed same) ∙ items-closed answered.ys
 
       -- none was taken out of the units while they ran
-      none_taken : flat_map (λ (u : UnitOf N). u.taken) us ≡ []
+      none_taken : flat_map d.taken us ≡ []
       none_taken =
-          ap (λ vs. flat_map (λ (u : UnitOf N). u.taken) vs) joined.units_are
+          ap (λ vs. flat_map d.taken vs) joined.units_are
           ∙ flat-taken (map (λ job. job.unit) joined.finished) (map (λ job. job.unit) was) (taken-finished d was joined.finished joined.each)
-          ∙ ap (λ vs. flat_map (λ (u : UnitOf N). u.taken) vs) made.units_are ∙ untaken j.keep (node_groups j.net)
+          ∙ ap (λ vs. flat_map d.taken vs) made.units_are ∙ untaken b j.keep j.net
 
       -- the report of the units is that of the network
-      IsReported-joined : (report : Report) → report.rejected ≡ counted (sum_by (λ u. u.rejects) us) → report.kept ≡ flat_map (λ u. u.kept) us → IsReported j xs report
+      IsReported-joined : (report : Report) → report.rejected ≡ counted (sum_by d.rejects us) → report.kept ≡ flat_map d.kept us → IsReported j xs report
       IsReported-joined report number kept = record {
         rejected = number ∙ answered.number ∙ ap (λ does. mean_rejected_count does j.tasks j.net xs) (sym made.does_is);
         kept = record {
           all = λ keep. subst (λ does. Same (mean_rejected does j.tasks j.net xs) report.kept) (sym made.does_is)
-              (Same-trans (Same-sym (answered.kept keep)) (Same-≡ _ _ (ap (λ l. l ++ flat_map (λ u. u.kept) us) none_taken ∙ sym kept)));
+              (Same-trans (Same-sym (answered.kept keep)) (Same-≡ _ _ (ap (λ l. l ++ flat_map d.kept us) none_taken ∙ sym kept)));
           none = λ none. kept ∙ answered.none none;
         };
       }
 
       -- all of an answer was written
-      pub RunEnded-joined : (report : Report) → report.rejected ≡ counted (sum_by (λ u. u.rejects) us) → report.kept ≡ flat_map (λ u. u.kept) us
+      pub RunEnded-joined : (report : Report) → report.rejected ≡ counted (sum_by d.rejects us) → report.kept ≡ flat_map d.kept us
           → (front last written : _) → taken ≡ closed last → text (items taken) ≡ front ++ written → (t t' : Option (List ℕ)) → Appends t t' written
           → RunEnded j xs front t t' report
       RunEnded-joined report number kept front last written eos splits t t' appended = record {
@@ -221,7 +202,7 @@ module _ {N : Type 0} (b : Behaviour N) where
       WorkedThrough-joined =
           let more = joined.settled.first 0 in
           let many : counted (units j.net + length xs) ≤ sum_by handled joined.finished =
-          handled-all b j.net made.laws made.whole got put us joined.finished joined.settled.each (rows-finished d was joined.finished joined.each ∙ made.rows_are)
+          handled-all b (IsUnit-laws b made.laws.kind made.laws.class) j.net made.laws made.whole got put us joined.finished joined.settled.each (rows-finished d was joined.finished joined.each ∙ made.rows_are)
           ran all xs more.0 more.1 fed in
           let rose : RoseBy (sum_by handled joined.finished) worked worked' =
           subst (λ n. RoseBy (sum_by handled joined.finished) worked n) (sym joined.work) (RoseBy-worked_after handled worked joined.finished) in

@@ -4,25 +4,23 @@ use Rattle.ff_rec.specs.Lines.{Rec, text}
 use Rattle.ff_rec.specs.Streams.{items, carried}
 use Rattle.ff_node.specs.Behaviour.{Behaviour, KeepsKind}
 use Rattle.ff_node.specs.Classes.{ClassLaw}
-use Rattle.ff_node.specs.Comb.{Part}
 use Rattle.ff_net.specs.Counts.{units}
-use Rattle.ff_net.specs.Forms.{has_copies}
+use Rattle.ff_net.specs.Forms.{has_wrap}
 use Rattle.ff_net.specs.Good.{Good}
-use Rattle.ff_net.specs.Nodes.{node_groups}
 use Rattle.ff_net.specs.Tree.{Tree}
 use Rattle.ff_plan.specs.PlanLaws.{CutRuns, WholeRuns}
 use Rattle.ff_plan.specs.Plans.{rows_of}
 use Rattle.ff_spawn.specs.Counts.{RoseBy}
-use Rattle.ff_steps.specs.Units.{opened_units}
+use Rattle.ff_steps.specs.NetUnits.{NetState}
+use Rattle.ff_steps.specs.PlanUnits.{opened_units}
 use Rattle.ff_stream.specs.Jobs.{Job}
-use Rattle.ff_unit.specs.Stage.{StageState}
 use Rattle.ff_engine.specs.Callers.{CallerState, Shows}
 use Rattle.ff_engine.specs.Jobs.{JobState}
 use Rattle.ff_engine.specs.Lines.{Linked}
 
 -- the state of a unit of the network
 abbrev pub UnitOf : Type 0 → Type 0
-UnitOf N = StageState (List (Part N))
+UnitOf N = NetState N
 
 -- the network keeps the rules, and the laws of its plan hold
 pub record HasLaws {N : Type 0} (b : Behaviour N) (net : Tree N) : Type 0 where
@@ -35,9 +33,9 @@ pub record HasLaws {N : Type 0} (b : Behaviour N) (net : Tree N) : Type 0 where
 -- these jobs were made of the network of a run, by its plan
 pub record AreJobsOf {N : Type 0} (b : Behaviour N) (j : Job N) (jobs : List (JobState (UnitOf N))) : Type 0 where
   pub does_is : j.does ≡ b
-  pub whole : has_copies j.net ≡ false
+  pub whole : has_wrap j.net ≡ false
   pub laws : HasLaws b j.net
-  pub units_are : map (λ job. job.unit) jobs ≡ opened_units b j.keep (node_groups j.net)
+  pub units_are : map (λ job. job.unit) jobs ≡ opened_units b j.keep j.net
   pub rows_are : map (λ job. job.row) jobs ≡ rows_of j.net
 
 -- the records were put on the first ring, and these bytes were written of what came

@@ -1,12 +1,10 @@
 -- The threads of a network before they are started.
 use Rattle.std.specs.Prelude.{◌≡◌, ℕ, ◌≤◌, Bool, List, [], length, map, All}
 use Rattle.ff_node.specs.Behaviour.{Behaviour}
-use Rattle.ff_node.specs.Comb.{comb_node}
-use Rattle.ff_net.specs.Nodes.{node_groups}
 use Rattle.ff_net.specs.Tree.{Tree}
 use Rattle.ff_plan.specs.Plans.{rows_of}
-use Rattle.ff_steps.specs.Units.{opened_units}
-use Rattle.ff_unit.specs.StageUnit.{stage_does}
+use Rattle.ff_steps.specs.NetUnits.{net_does}
+use Rattle.ff_steps.specs.PlanUnits.{opened_units}
 use Rattle.ff_engine.specs.Callers.{CallerState}
 use Rattle.ff_engine.specs.Jobs.{JobState, IsFresh}
 use Rattle.ff_engine.specs.Lines.{IsWired, Linked}
@@ -20,11 +18,11 @@ pub record IsPrepared {N : Type 0} (b : Behaviour N) (keep : Bool) (net : Tree N
   pub got : c.got ≡ []
   pub text : c.text ≡ []
   pub linked : Linked c.writes jobs c.reads
-  pub units_are : map (λ job. job.unit) jobs ≡ opened_units b keep (node_groups net)
+  pub units_are : map (λ job. job.unit) jobs ≡ opened_units b keep net
   pub rows_are : map (λ job. job.row) jobs ≡ rows_of net
   pub wired : IsWired (map (λ job. job.row) jobs) ins
   pub places : outs ≡ ins
-  pub fresh : All (λ job. IsFresh (stage_does (comb_node b)) job) jobs
+  pub fresh : All (λ job. IsFresh (net_does b) job) jobs
   pub empty : units ≡ []
   pub roomy : length jobs ≤ unit_room
   pub none : running ≡ []

@@ -18,18 +18,19 @@ use crate::caller::Caller;
 use crate::line::Line;
 use crate::report::{all_ended_by_eos, report_of};
 use ff_io::Sink;
-use ff_node::{Comb, Node};
+use ff_node::Node;
 use ff_port::End;
 use ff_rec::Msg;
 use ff_spawn::Spawner;
+use ff_steps::NetUnit;
 use ff_stream::{Halt, Report, RunFault};
-use ff_unit::{Stage, Unit};
+use ff_unit::Unit;
 use std::alloc::Global;
 use std::sync::Wait;
 
 impl<N: Node + Send + 'static, R: Wait + Drop + Send + 'static> Line<N, R> {
     /// Tells the units that no record comes any more, writes all that they send, and joins their threads.
-    pub(crate) fn finish<S: Spawner<NetJob<Stage<Comb<N>>, R>>, O: Sink>(
+    pub(crate) fn finish<S: Spawner<NetJob<NetUnit<N>, R>>, O: Sink>(
         self,
         alloc: Global,
         by: &mut S,
@@ -58,7 +59,7 @@ impl<N: Node + Send + 'static, R: Wait + Drop + Send + 'static> Line<N, R> {
 
     /// Tells the units that the stream is cut off, and joins their threads. What was written begins an answer, whatever
     /// records follow.
-    pub(crate) fn give_up<S: Spawner<NetJob<Stage<Comb<N>>, R>>>(self, by: &mut S)
+    pub(crate) fn give_up<S: Spawner<NetJob<NetUnit<N>, R>>>(self, by: &mut S)
         requires { Linked (caller_of self.caller).writes self.crew (caller_of self.caller).reads }
         ensures opens { (j : Job N) (halt : Halt) (xs : List Rec) (front : List ℕ)
             → HasStopped N.does j (caller_of self.caller) self.crew xs front

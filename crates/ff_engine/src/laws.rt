@@ -1,12 +1,8 @@
-// What holds of units whatever the call, for functions whose nodes go to other threads: in their proofs the laws of a bound
+// What holds of a network's plan whatever the call, for functions whose nodes go to other threads: in their proofs the laws of a bound
 // can't be named.
-ghost use Rattle.ff_node.specs.Behaviour.{KeepsKind};
-ghost use Rattle.ff_node.specs.Comb.{comb_node};
-ghost use Rattle.ff_unit.specs.StageUnit.{stage_does};
 ghost use Rattle.ff_net.specs.Counts.{edges};
 ghost use Rattle.ff_net.specs.Tree.{tree_of};
 ghost use Rattle.ff_plan.specs.Plans.{rows_of};
-ghost use Rattle.ff_unit.specs.Units.{IsUnit};
 ghost use Rattle.ff_engine.specs.Lines.{IsWired};
 ghost use Rattle.ff_engine.specs.Networks.{HasLaws};
 
@@ -14,13 +10,6 @@ use ff_net::Checked;
 use ff_net::laws::checked_networks_are_good;
 use ff_node::Node;
 use ff_plan::laws::{cut_runs, whole_runs};
-
-/// Nodes and combs of them keep their kind, and stages of such combs are units.
-pub(crate) fn units_keep_laws<N: Node>()
-    ensures node { KeepsKind N.does }
-    ensures comb { KeepsKind (comb_node N.does) }
-    ensures unit { IsUnit (stage_does (comb_node N.does)) }
-{}
 
 /// Each edge of a network's plan has one reader and one writer.
 pub(crate) fn plans_are_wired<N: Node>(checked: &Checked<N>)

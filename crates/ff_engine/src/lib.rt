@@ -22,6 +22,7 @@ mod starting;
 mod stepping;
 
 pub use fault::NetFault;
+pub use ff_steps::NetUnit;
 pub use net_job::NetJob;
 pub use run::{run_net, runs};
 

@@ -6,17 +6,17 @@ ghost use Rattle.ff_engine.specs.Seen.{caller_of};
 use crate::caller::Caller;
 use crate::crew::Crew;
 use ff_io::Sink;
-use ff_node::{Comb, Node};
+use ff_node::Node;
 use ff_rec::{Msg, Record};
+use ff_steps::NetUnit;
 use ff_stream::{Halt, Intake};
-use ff_unit::Stage;
 use std::sync::Wait;
 
 /// The units of a network in threads of their own, between the two ends of the calling thread, which feeds them as it
 /// reads and writes what comes. It is to be ended by `finish` or `give_up`, which join the threads.
 pub(crate) struct Line<N: Node, R: Wait + Drop> {
     pub(crate) caller: Caller,
-    pub(crate) crew: Crew<Stage<Comb<N>>, R>,
+    pub(crate) crew: Crew<NetUnit<N>, R>,
     // The right to wait.
     pub(crate) rt: R,
     // Records alone were put so far.

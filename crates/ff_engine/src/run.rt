@@ -2,7 +2,7 @@
 ghost use Rattle.std.specs.Prelude.{◌≡◌, ◌≤◌, ◌+◌, ℕ, List, false, length, IfOk, OnOk, not};
 ghost use Rattle.ff_rec.specs.Lines.{Rec};
 ghost use Rattle.ff_net.specs.Counts.{units};
-ghost use Rattle.ff_net.specs.Forms.{has_copies};
+ghost use Rattle.ff_net.specs.Forms.{has_wrap};
 ghost use Rattle.ff_net.specs.Tree.{tree_of};
 ghost use Rattle.ff_spawn.specs.Counts.{RoseBy};
 ghost use Rattle.ff_stream.specs.Endings.{Told};
@@ -17,18 +17,18 @@ use crate::starting::{prepare, start};
 use crate::{NetFault, NetJob};
 use ff_io::{Sink, Source};
 use ff_net::Checked;
-use ff_node::{Comb, Node};
+use ff_node::Node;
 use ff_spawn::Spawner;
+use ff_steps::NetUnit;
 use ff_stream::{Ending, RunFault};
-use ff_unit::Stage;
 use std::alloc::Global;
 use std::sync::Wait;
 
 /// Whether a network can be run by threads: it is a leaf, a comb or a pipe of such.
 pub fn runs<N: Node>(checked: &Checked<N>) -> bool
-    ensures { result ≡ not (has_copies (tree_of checked.now.net)) }
+    ensures { result ≡ not (has_wrap (tree_of checked.now.net)) }
 {
-    !checked.has_copies()
+    !checked.has_wrap()
 }
 
 /// Runs a network over the records of a source, each of its units in a thread of its own, and writes the text of what it
@@ -38,7 +38,7 @@ pub fn run_net<
     R: Wait + Clone + Drop + Send + 'static,
     I: Source,
     O: Sink,
-    S: Spawner<NetJob<Stage<Comb<N>>, R>>,
+    S: Spawner<NetJob<NetUnit<N>, R>>,
 >(
     rt: &R,
     alloc: Global,
@@ -49,7 +49,7 @@ pub fn run_net<
     sink: &mut O,
     spawner: &mut S,
 ) -> Result<Ending, NetFault>
-    requires runs { has_copies (tree_of checked.now.net) ≡ false }
+    requires runs { has_wrap (tree_of checked.now.net) ≡ false }
     requires low { 1 ≤ cap }
     requires high { cap ≤ 4096 }
     ensures run { (limit : ℕ) → NetRan (job N.does (tree_of checked.now.net) checked.now.version limit keep)

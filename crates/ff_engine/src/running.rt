@@ -11,10 +11,10 @@ use crate::NetJob;
 use crate::line::Line;
 use ff_io::{Sink, Source};
 use ff_net::Version;
-use ff_node::{Comb, Node};
+use ff_node::Node;
 use ff_spawn::Spawner;
+use ff_steps::NetUnit;
 use ff_stream::{Ending, RunFault, take_stream};
-use ff_unit::Stage;
 use std::alloc::Global;
 use std::sync::Wait;
 
@@ -24,7 +24,7 @@ pub(crate) fn run_line<
     R: Wait + Drop + Send + 'static,
     I: Source,
     O: Sink,
-    S: Spawner<NetJob<Stage<Comb<N>>, R>>,
+    S: Spawner<NetJob<NetUnit<N>, R>>,
 >(
     alloc: Global,
     version: Version,

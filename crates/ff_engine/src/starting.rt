@@ -1,6 +1,6 @@
 // How the units of a network come into threads.
 ghost use Rattle.std.specs.Prelude.{◌≡◌, ◌≤◌, ◌+◌, [], false, length, map, vec_len, vec_capacity, All, IfOk, OnOk};
-ghost use Rattle.ff_net.specs.Forms.{has_copies};
+ghost use Rattle.ff_net.specs.Forms.{has_wrap};
 ghost use Rattle.ff_net.specs.Tree.{tree_of};
 ghost use Rattle.ff_spawn.specs.Counts.{count_more, denied_after};
 ghost use Rattle.ff_engine.specs.Jobs.{IsFresh};
@@ -12,17 +12,17 @@ use crate::NetJob;
 use crate::bells::Bells;
 use crate::caller::Caller;
 use crate::crew::Crew;
-use crate::laws::{plans_are_wired, units_keep_laws};
+use crate::laws::{plans_are_wired, plans_keep_laws};
 use crate::linking::{Network, link_units};
 use crate::prepared::Prepared;
 use ff_net::Checked;
-use ff_node::{Comb, Node};
+use ff_node::Node;
 use ff_plan::{Queue, plan};
 use ff_rec::NoMemory;
 use ff_ring::Pause;
 use ff_spawn::{Denial, RunningJobs, Spawner};
-use ff_steps::make_units;
-use ff_unit::{Stage, Unit};
+use ff_steps::{NetUnit, make_units};
+use ff_unit::Unit;
 use std::alloc::Global;
 use std::sync::Wait;
 
@@ -33,15 +33,15 @@ pub(crate) fn prepare<N: Node + Send + 'static, R: Wait + Clone + Drop + Send + 
     checked: &Checked<N>,
     cap: u32,
     keep: bool,
-) -> Result<Prepared<Stage<Comb<N>>, R>, NoMemory>
-    requires runs { has_copies (tree_of checked.now.net) ≡ false }
+) -> Result<Prepared<NetUnit<N>, R>, NoMemory>
+    requires runs { has_wrap (tree_of checked.now.net) ≡ false }
     requires low { 1 ≤ cap }
     requires high { cap ≤ 4096 }
     ensures { IfOk result (λ p. IsPrepared N.does keep (tree_of checked.now.net) (caller_of p.caller)
         p.jobs.items p.units.items (vec_capacity p.units) p.running.jobs p.running.room
         (length p.board.ins.items) (length p.board.outs.items)) }
 {
-    units_keep_laws::<N>();
+    plans_keep_laws(checked);
     plans_are_wired(checked);
     let units = make_units(alloc, checked, keep)?;
     let room = Vec::with_capacity(alloc, units.len())?;

@@ -4,7 +4,7 @@ use Rattle.ff_rec.specs.Counts.{more}
 use Rattle.ff_rec.specs.Lines.{Rec, text}
 use Rattle.ff_io.specs.Files.{Holdings, HoldsBytes, KeepsAll, KeepsOthers}
 use Rattle.ff_net.specs.Counts.{units}
-use Rattle.ff_net.specs.Forms.{has_copies}
+use Rattle.ff_net.specs.Forms.{has_wrap}
 use Rattle.ff_net.specs.Tree.{Tree}
 use Rattle.ff_ops.specs.Operation.{OpState, op_node}
 use Rattle.ff_spawn.specs.Counts.{RoseBy}
@@ -35,9 +35,9 @@ abbrev pub Stored : Option (List ℕ) → List Rec → Option Holdings → Optio
 Stored None kept told now = KeepsAll told now
 Stored (Some name) kept told now = HoldsBytes now name (text kept) × KeepsOthers told now name
 
--- a network is run by threads unless the words ask for one thread, or copies of a part stand in it
+-- a network is run by threads unless the words ask for one thread, or feedback stands in it
 abbrev pub by_threads : Bool → Tree OpState → Bool
-by_threads one t = not one && not (has_copies t)
+by_threads one t = not one && not (has_wrap t)
 
 -- for each unit a thread was started, and the threads handled each record and an end for each unit
 pub record RanByThreads (j : Job OpState) (xs : List Rec) (before now : Outside) : Type 0 where

@@ -10,12 +10,10 @@ use crate::fault::Fault;
 use crate::given::read_given;
 use crate::print::{Form, print};
 use crate::run::{Order, run};
-use ff_engine::NetJob;
+use ff_engine::{NetJob, NetUnit};
 use ff_io::{Files, Sink, Source};
-use ff_node::Comb;
 use ff_ops::Op;
 use ff_spawn::{Refusals, Spawner};
-use ff_unit::Stage;
 use ff_words::{Command, Given, read_command};
 use std::alloc::Global;
 use std::sync::Wait;
@@ -27,7 +25,7 @@ pub fn execute<
     O: Sink,
     E: Sink,
     R: Wait + Clone + Drop + Send + 'static,
-    S: Spawner<NetJob<Stage<Comb<Op>>, R>>,
+    S: Spawner<NetJob<NetUnit<Op>, R>>,
 >(
     rt: &R,
     alloc: Global,
@@ -53,7 +51,7 @@ fn work<
     O: Sink,
     E: Sink,
     R: Wait + Clone + Drop + Send + 'static,
-    S: Spawner<NetJob<Stage<Comb<Op>>, R>>,
+    S: Spawner<NetJob<NetUnit<Op>, R>>,
 >(rt: &R, alloc: Global, job: Command, devices: &mut Devices<F, I, O, E, S>) -> Result<u64, Fault>
     ensures worked { let seen = ⟦<Devices<F, I, O, E, S> as Seen>⟧.outside in
         Worked job (seen devices.old) (seen devices.new) result }
@@ -91,7 +89,7 @@ fn run_given<
     O: Sink,
     E: Sink,
     R: Wait + Clone + Drop + Send + 'static,
-    S: Spawner<NetJob<Stage<Comb<Op>>, R>>,
+    S: Spawner<NetJob<NetUnit<Op>, R>>,
 >(
     rt: &R,
     alloc: Global,

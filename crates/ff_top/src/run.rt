@@ -10,14 +10,12 @@ ghost use Rattle.ff_top.specs.Texts.{version};
 use crate::devices::{Devices, Seen};
 use crate::rejects::store_rejects;
 use crate::run_cause::RunCause;
-use ff_engine::{NetFault, NetJob, run_net, runs};
+use ff_engine::{NetFault, NetJob, NetUnit, run_net, runs};
 use ff_io::{Files, Sink, Source};
 use ff_net::Checked;
-use ff_node::Comb;
 use ff_ops::Op;
 use ff_single::{Ending, RunFault, Stop, run_single};
 use ff_spawn::Spawner;
-use ff_unit::Stage;
 use ff_words::Text;
 use std::alloc::Global;
 use std::sync::Wait;
@@ -42,7 +40,7 @@ pub fn run<
     O: Sink,
     E: Sink,
     R: Wait + Clone + Drop + Send + 'static,
-    S: Spawner<NetJob<Stage<Comb<Op>>, R>>,
+    S: Spawner<NetJob<NetUnit<Op>, R>>,
 >(
     rt: &R,
     alloc: Global,
@@ -70,7 +68,7 @@ fn answer<
     O: Sink,
     E: Sink,
     R: Wait + Clone + Drop + Send + 'static,
-    S: Spawner<NetJob<Stage<Comb<Op>>, R>>,
+    S: Spawner<NetJob<NetUnit<Op>, R>>,
 >(
     rt: &R,
     alloc: Global,

@@ -10,14 +10,12 @@ use crate::execute::execute;
 use crate::fault::Fault;
 use crate::pieces::write_memory;
 use crate::tell::{room_for, tell};
-use ff_engine::NetJob;
+use ff_engine::{NetJob, NetUnit};
 use ff_io::{Files, Sink, Source};
-use ff_node::Comb;
 use ff_ops::Op;
 use ff_rec::reading_is_cutting;
 use ff_spawn::Spawner;
 use ff_text::networks_spelled_alike_are_the_same;
-use ff_unit::Stage;
 use std::alloc::Global;
 use std::sync::Wait;
 
@@ -30,7 +28,7 @@ pub fn ffrun<
     O: Sink,
     E: Sink,
     R: Wait + Clone + Drop + Send + 'static,
-    S: Spawner<NetJob<Stage<Comb<Op>>, R>>,
+    S: Spawner<NetJob<NetUnit<Op>, R>>,
 >(rt: &R, alloc: Global, words: &[String], devices: &mut Devices<F, I, O, E, S>) -> u8
     ensures status { Contains (0 ∷ 1 ∷ 2 ∷ 3 ∷ 4 ∷ 5 ∷ 6 ∷ []) result }
 

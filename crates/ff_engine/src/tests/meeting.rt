@@ -29,15 +29,20 @@ impl Flags {
     }
 }
 
-// Which of the two nodes it is.
+// Where a node stands.
 #[derive(Clone, Copy, Debug, PartialEq, Eq)]
 pub enum Place {
+    /// In a pipe, before the second: it waits on record 2 until that has begun record 1.
     First,
+    /// Behind the first: it waits on record 1 until that has begun record 2.
     Second,
+    /// In a set of copies: the one with record 1 waits until another has begun record 2.
+    Worker,
+    /// Anywhere: it waits for nobody.
+    Passing,
 }
 
-/// A node that sends each record on. The first waits on record 2 until the second has begun record 1, and the second on
-/// record 1 until the first has begun record 2.
+/// A node that sends each record on, and waits for another on one of them.
 #[derive(Drop)]
 pub struct Meets {
     pub place: Place,
@@ -66,6 +71,11 @@ impl Meets {
                 flags.second_began.store(true);
                 flags.second_met.store(comes(&flags.first_began));
             }
+            (Place::Worker, Some(1)) => {
+                flags.first_began.store(true);
+                flags.first_met.store(comes(&flags.second_began));
+            }
+            (Place::Worker, Some(2)) => flags.second_began.store(true),
             _ => {}
         }
     }

@@ -2,7 +2,7 @@
 use super::meeting::{Flags, Meets, Place};
 use crate::{NetFault, run_net, runs};
 use ff_io::{MemSink, MemSource, Source};
-use ff_net::{Checked, Net, Version, check};
+use ff_net::{Checked, Net, Route, Sched, Version, check};
 use ff_rec::LineFault;
 use ff_spawn::{RefuseAt, Threads};
 use ff_stream::{Ending, RunFault, Stop};
@@ -203,5 +203,69 @@ fn meet_line(rt: HostRuntime) -> Result<(), Fail> {
     assert!(rt; flags.second_met.load());
     // Two units, two records and an end for each unit.
     assert_eq!(rt; (spawner.starts(), spawner.worked()), (2, 6));
+    Ok(())
+}
+
+// A node at this place.
+fn meets(place: Place, flags: &Arc<Flags>) -> Result<Net<Meets>, Fail> {
+    Ok(Net::Leaf(Meets {
+        place,
+        flags: Arc::try_clone(flags)?,
+    }))
+}
+
+// Copies of a node: in a farm, in an ordered farm, and in the left set of an all-to-all.
+fn copies(alloc: Global, flags: &Arc<Flags>, form: u32) -> Result<Net<Meets>, Fail> {
+    let worker = Box::new(alloc, meets(Place::Worker, flags)?)?;
+    Ok(match form {
+        0 => Net::Farm {
+            workers: 2,
+            sched: Sched::Rr,
+            worker,
+        },
+        1 => Net::OFarm {
+            workers: 2,
+            sched: Sched::Rr,
+            worker,
+        },
+        _ => Net::A2a {
+            left: 2,
+            left_node: worker,
+            route: Route::Rr,
+            right: 1,
+            right_node: Box::new(alloc, meets(Place::Passing, flags)?)?,
+        },
+    })
+}
+
+// Two copies of a node meet, of which one waits for the other.
+#[test]
+fn meet_copies(rt: HostRuntime) -> Result<(), Fail> {
+    let alloc = rt.alloc();
+    for (form, units) in [(0, 4), (1, 4), (2, 8)] {
+        let flags = Arc::new(alloc, Flags::new())?;
+        let net = checked(copies(alloc, &flags, form)?)?;
+        assert!(rt; runs(&net));
+        let input = Vec::from_slice(alloc, b"1\n2\n")?;
+        let mut source = MemSource::new(input, 64, Vec::new(alloc));
+        let mut sink = MemSink::new(alloc, 99, Vec::new(alloc))?;
+        let mut spawner = Threads::new(rt.clone()?);
+        let answer = run_net(
+            &rt,
+            alloc,
+            &net,
+            512,
+            true,
+            &mut source,
+            &mut sink,
+            &mut spawner,
+        );
+        assert_eq!(rt; summary(answer), (DONE, 0, 0), "{form}");
+        assert!(rt; flags.first_met.load(), "{form}");
+        let taken = sink.taken();
+        let as_read = taken == b"1\n2\n".as_slice();
+        assert!(rt; as_read || (form != 1 && taken == b"2\n1\n".as_slice()), "{form}: {taken:?}");
+        assert_eq!(rt; spawner.starts(), units, "{form}");
+    }
     Ok(())
 }

@@ -2,7 +2,7 @@
 use super::{ANY_ORDER, Host, SOUND, Setting, check_case, check_table};
 use crate::tests::cases::{Case, case_of, is_call};
 use crate::tests::flowing::check_left;
-use crate::tests::networks::ORDERED;
+use crate::tests::networks;
 use std::alloc::Global;
 use std::test::Fail;
 
@@ -15,7 +15,7 @@ const SIZES: [&str; 5] = [
     "run --cap 4096",
 ];
 
-// Lines of units. The first has six, and more records than the largest rings hold.
+// Networks of many units. The first has six in a row, and more records than the largest rings hold.
 const LINES: &str = r#"
 run 'pipe(words 1, add 1 1, comb(mul 1 2, neg 1), pipe(id, id), id)' | \[6000 1 2\nx\n] | 0 | \[6000 -4\n-6\n] | ffrun: 6000 rejected\n
 // Nodes that end by themselves, at the front, in the middle and at the end.
@@ -25,6 +25,13 @@ run 'pipe(add 1 1, id, take 2)' | \[2000 1\nx\n] | 0 | 2\n2\n | ffrun: 2000 reje
 run 'pipe(take 3, take 2, take 1)' | 1\n2\n3\n4\n | 0 | 1\n |
 // Nodes that send at the end.
 run 'pipe(total 1, add 1 1, tally)' | \[2000 1\nx\n] | 0 | 1\n | ffrun: 2000 rejected\n
+// Farms, ordered farms and all-to-alls, before and behind a node that ends by itself, and within one another.
+run 'pipe(farm 4 rr (mul 1 3), total 1)' | \[2000 1\n2\nx\n] | 0 | 18000\n | ffrun: 2000 rejected\n
+run 'pipe(farm 3 od (farm 2 rr (add 1 1)), tally)' | \[2000 1\nx\n] | 0 | 2000\n | ffrun: 2000 rejected\n
+run 'pipe(ofarm 3 od (add 1 1), take 2, ofarm 2 rr (dup 2))' | 1\n2\n\[2000 3\nx\n] | 0 | 2\n2\n3\n3\n | ffrun: 2000 rejected\n
+run 'pipe(ofarm 64 rr (words 1), number, keep 1, total 1)' | \[1000 a b\n\nc\n] | 0 | 4501500\n |
+run 'pipe(a2a 3 (words 1) by 1 5 (tallyby 1), total 2)' | \[1000 a b\nc\n] | 0 | 3000\n |
+run 'pipe(a2a 2 (id) od 3 (add 1 1), a2a 3 (id) rr 1 (neg 1), total 1)' | \[2000 1\nx\n] | 0 | -4000\n | ffrun: 2000 rejected\n
 "#;
 
 // Calls of three units, of which one isn't started. Nothing is stored.
@@ -33,12 +40,16 @@ run 'pipe(add 1 1, id, comb(neg 1, id))' | x\n | 5 |  | ffrun: a thread was refu
 run --rejects net.txt 'pipe(add 1 1, id, comb(neg 1, id))' | x\n | 5 |  | ffrun: a thread was refused\n | as before\n
 "#;
 
+// Calls of five units, of which one isn't started.
+const REFUSED_FARM: &str = r#"
+run 'pipe(id, farm 2 rr (id))' | x\n | 5 |  | ffrun: a thread was refused\n | as before\n
+run 'pipe(ofarm 2 od (id), id)' | x\n | 5 |  | ffrun: a thread was refused\n | as before\n
+"#;
+
 // Calls that start no thread.
 const ON_ONE_THREAD: &str = r#"
 run --one 'pipe(add 1 1, id)' | 1\n | 0 | 2\n |
-run 'farm 2 rr (add 1 1)' | 1\n2\n | 0 | 2\n3\n |
-run 'pipe(id, ofarm 2 od (id))' | 1\n | 0 | 1\n |
-run 'a2a 2 (id) rr 2 (id)' | 1\n | 0 | 1\n |
+run --one 'farm 2 rr (add 1 1)' | 1\n2\n | 0 | 2\n3\n |
 run 'pipe(wrap 1 (id) if 1 > 1, id)' | 1\n | 0 | 1\n |
 check 'pipe(id, id)' |  | 0 | pipe(id, id)\n |
 "#;
@@ -46,18 +57,25 @@ check 'pipe(id, id)' |  | 0 | pipe(id, id)\n |
 #[test]
 fn rings_of_each_size(rt: HostRuntime) -> Result<(), Fail> {
     for verb in SIZES {
-        check_lines(&rt, rt.alloc(), LINES, verb)?;
-        check_lines(&rt, rt.alloc(), ORDERED, verb)?;
+        check_lines(&rt, rt.alloc(), LINES, verb, SOUND)?;
+        check_lines(&rt, rt.alloc(), networks::ORDERED, verb, SOUND)?;
+        check_lines(&rt, rt.alloc(), networks::ANY_ORDER, verb, ANY_ORDER)?;
     }
     Ok(())
 }
 
 // Makes the calls of a table with these first words, and compares.
-fn check_lines<R: Host>(rt: &R, alloc: Global, table: &str, verb: &str) -> Result<(), Fail> {
+fn check_lines<R: Host>(
+    rt: &R,
+    alloc: Global,
+    table: &str,
+    verb: &str,
+    by: Setting,
+) -> Result<(), Fail> {
     for line in table.lines() {
         if is_call(line) {
             let case = case_of(line)?;
-            check_case(rt, alloc, Case { verb, ..case }, SOUND)?;
+            check_case(rt, alloc, Case { verb, ..case }, by)?;
         }
     }
     Ok(())
@@ -66,14 +84,16 @@ fn check_lines<R: Host>(rt: &R, alloc: Global, table: &str, verb: &str) -> Resul
 // The next read gives the whole input.
 #[test]
 fn each_start_is_refused(rt: HostRuntime) -> Result<(), Fail> {
-    for refuse in 1..4 {
-        let by = Setting {
-            file: b"as before\n",
-            stored: "net.txt",
-            refuse,
-            ..SOUND
-        };
-        check_left(&rt, rt.alloc(), REFUSED, by, 2)?;
+    for (table, units) in [(REFUSED, 3), (REFUSED_FARM, 5)] {
+        for refuse in 1..=units {
+            let by = Setting {
+                file: b"as before\n",
+                stored: "net.txt",
+                refuse,
+                ..SOUND
+            };
+            check_left(&rt, rt.alloc(), table, by, 2)?;
+        }
     }
     Ok(())
 }

@@ -2,21 +2,19 @@
 use Rattle.std.proofs.Common.{◌≡◌, ◌≤◌, ◌∙◌, [], ◌∷◌, length, sym, ap, subst, arith}
 use Rattle.std.proofs.lemmas.List.{length-map}
 use Rattle.std.specs.List.{All, AllZip}
-use Rattle.ff_node.specs.Comb.{comb_node}
 use Rattle.ff_net.specs.Counts.{edges}
 use Rattle.ff_net.specs.Tree.{tree_of}
 use Rattle.ff_plan.specs.Plans.{Plan, rows_of}
 use Rattle.ff_plan.specs.Rows.{range}
 use Rattle.ff_plan.specs.declared.kind.Queue.TheVariants.{Ring}
 use Rattle.ff_plan.specs.declared.layout.Edge.{Edge}
-use Rattle.ff_unit.specs.StageUnit.{stage_does}
-use Rattle.ff_unit.specs.Units.{Ran}
+use Rattle.ff_steps.specs.NetUnits.{net_does}
 use Rattle.ff_spawn.specs.Lists.{Crew}
 use Rattle.ff_engine.specs.Callers.{CallerState}
 use Rattle.ff_engine.specs.Jobs.{JobState, IsOpened}
 use Rattle.ff_engine.specs.Lines.{IsWired, Linked}
 use Rattle.ff_engine.specs.Networks.{UnitOf}
-use Rattle.ff_engine.proofs.NetStarts.{IsOpened-units}
+use Rattle.ff_engine.proofs.Opened.{IsOpened-units}
 use Rattle.ff_engine.proofs.PlanEdges.{high-caps, length-edges, low-caps}
 use Rattle.ff_engine.proofs.starting.prepare.Goals as goal
 
@@ -24,12 +22,11 @@ pub link_units-requires-clause-opened : goal.link_units-requires-clause-opened
 link_units-requires-clause-opened g c =
     let b = g.N.Node.does in
     let t = tree_of c.args.checked.now.net in
-    let are = c.in_ok-units.ensures.units in
+    let laws = c.plans_keep_laws.ensures in
     let rows : c.into_parts-rows.result.0.items ≡ rows_of t = c.into_parts-rows.ensures.units ∙ ap (λ (p : Plan). p.units) c.in_ok-plan.ensures in
-    subst (λ rs. AllZip (λ r u. IsOpened (stage_does (comb_node b)) r u) rs c.in_ok-units.units.items) (sym rows)
-    (subst (λ us. AllZip (λ r u. IsOpened (stage_does (comb_node b)) r u) (rows_of t) us) (sym are)
-    (IsOpened-units b c.units_keep_laws.ensures.node c.args.keep t c.requires.runs
-    (subst (λ us. All (λ u. Ran (stage_does (comb_node b)) u ([] ∷ []) ([] ∷ [])) us) are c.in_ok-units.ensures.ran)))
+    subst (λ rs. AllZip (λ r u. IsOpened (net_does b) r u) rs c.in_ok-units.units.items) (sym rows)
+    (subst (λ us. AllZip (λ r u. IsOpened (net_does b) r u) (rows_of t) us) (sym c.in_ok-units.ensures.units)
+    (IsOpened-units b c.args.keep laws.kind t c.requires.runs laws.good))
 
 pub link_units-requires-clause-wired : goal.link_units-requires-clause-wired
 link_units-requires-clause-wired g c =
