@@ -80,7 +80,10 @@ fn work<
         Command::Check { given } => print_given(alloc, given, Form::Network, devices),
         Command::Plan { given } => print_given(alloc, given, Form::Plan, devices),
         Command::Soak {
-            n, workers, cap, ..
+            n,
+            workers,
+            cap,
+            ..
         } => run_soak(rt, alloc, n, workers, cap, devices),
         _ => Err(Fault::NotBuilt),
     }

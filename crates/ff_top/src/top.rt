@@ -43,7 +43,7 @@ pub fn ffrun<
     ensures done { let seen = ⟦<Devices<F, I, O, E, S> as Seen>⟧.outside in
         result ≡ 0 → (rejected : ℕ)
         × (Did (texts words.now) (seen devices.old) (seen devices.new) (Ok rejected)
-            ⊎ DidSoak (texts words.now) (seen devices.old) (seen devices.new) (Ok rejected)) }
+        ⊎ DidSoak (texts words.now) (seen devices.old) (seen devices.new) (Ok rejected)) }
 
     // 1 exactly where the words aren't a command, unless memory ran out.
     ensures usage { result ≡ 1 → command (texts words.now) ≡ None }
