@@ -11,3 +11,4 @@ pub mod LineRuns
 pub mod LineEnds
 pub mod NetStarts
 pub mod NetLaws
+pub mod UnitSent

@@ -17,8 +17,8 @@ use Rattle.ff_unit.specs.declared.mode.Mode.{Mode}
 use Rattle.ff_unit.specs.declared.mode.Mode.TheVariants.{Live, Shut, Cut}
 use Rattle.ff_order.specs.MergedLaws.{merged, gather-merged, FitsOMerge-from}
 use Rattle.ff_order.specs.OMerges.{OMergeState, OMergeReady, FitsOMerge, omerge_ins}
-use Rattle.ff_order.specs.OMergeRunLaws.{IsTied, TiedAt-begun}
-use Rattle.ff_order.specs.OMergeTiedLaws.{Meets, Begun, TiedAt, eos_after}
+use Rattle.ff_order.specs.OMergeBegunLaws.{TiedLive-begun, TiedAt-begun}
+use Rattle.ff_order.specs.OMergeTiedLaws.{IsTied, Meets, Begun, TiedAt, eos_after}
 use Rattle.ff_order.specs.PortLaws.{AllGoOn-length, FlagsFit-whole}
 use Rattle.ff_order.specs.declared.order.Order.{Order}
 use Rattle.ff_order.specs.declared.order.Order.TheVariants.{InTurn, ByPick}
@@ -49,11 +49,7 @@ Begun-answer order n gots ins p some b = record {
 TiedAt-answer : (mode : Mode) (order : Order) (n due : ℕ) (live : List Bool) (end : End) (gots ins : List (List Message)) (t : List Message) → 1 ≤ n
     → TiedAt mode order n due live end gots t → IsAnswer order n gots ins t
 TiedAt-answer Live order n due live end gots ins t some l =
-    Begun-answer order n gots ins t some (record {
-      ys = l.ys;
-      is = l.is;
-      begins = λ ins picks groups h. let left = l.left ins picks groups h in record { more = gather left.picks left.groups; is = left.joins };
-    })
+    Begun-answer order n gots ins t some (TiedLive-begun order n due live end gots t l)
 TiedAt-answer Shut order n due live end gots ins t some s = by (any_live live) s.is
   where
     by : (b : Bool) → t ≡ carried s.ys ++ eos_after b → IsAnswer order n gots ins t

@@ -13,13 +13,6 @@ use Rattle.ff_order.specs.OMerges.{OMergeState, omerge_ins, next_due, omerge_clo
 use Rattle.ff_order.specs.declared.order.Order.{Order}
 use Rattle.ff_order.specs.declared.order.Order.TheVariants.{InTurn, ByPick}
 
-abbrev pub IsAbortMsg : Message → Type 0
-IsAbortMsg (Item x) = ⊥
-IsAbortMsg Mark = ⊥
-IsAbortMsg (Pick w) = ⊥
-IsAbortMsg EosMsg = ⊥
-IsAbortMsg AbortMsg = Unit {0}
-
 -- what stays where message `m` is taken
 pub record IsKept (m : Message) (u v : OMergeState) : Type 0 where
   pub order : v.order ≡ u.order
@@ -28,7 +21,7 @@ pub record IsKept (m : Message) (u v : OMergeState) : Type 0 where
   pub done : v.done ≡ u.done
   pub told : v.told ≡ u.told
   pub due : 1 ≤ u.places → u.due < omerge_ins u.order u.places → v.due < omerge_ins u.order u.places
-  pub cause : v.end ≡ Abort → (u.end ≡ Abort) ⊎ IsAbortMsg m
+  pub cause : v.end ≡ Abort → (u.end ≡ Abort) ⊎ (m ≡ AbortMsg)
 
 -- the place that is due next is one of them
 next_due-within : (order : Order) (n w : ℕ) → 1 ≤ n → w < omerge_ins order n → next_due order n w < omerge_ins order n
@@ -78,7 +71,7 @@ omerge_cuts-kept u k = record {
   done = refl;
   told = refl;
   due = λ some h. h;
-  cause = λ e. inr tt;
+  cause = λ e. inr refl;
 }
 
 gets_group-kept : (u : OMergeState) (m : Message) → IsKept m u (gets_group u m)

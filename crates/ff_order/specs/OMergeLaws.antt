@@ -12,7 +12,8 @@ use Rattle.ff_unit.specs.declared.mode.Mode.TheVariants.{Cut}
 use Rattle.ff_order.specs.OMerges.{OMergeState, OMergeStep, omerge_ins, opened_omerge, opening_omerge, aborted_omerge, omerge_does}
 use Rattle.ff_order.specs.OMergeFitsLaws.{OMergeReady-tied, BeginsToFit-tied, FitsWhole-tied}
 use Rattle.ff_order.specs.OMergeKeptLaws.{omerge_takes-kept}
-use Rattle.ff_order.specs.OMergeRunLaws.{IsTied, HasRun-tied}
+use Rattle.ff_order.specs.OMergeRunLaws.{HasRun-tied}
+use Rattle.ff_order.specs.OMergeTiedLaws.{IsTied}
 
 -- no act changes its order, its places, or what it was told, but for being told
 opening-step : (u : OMergeState) (act : Act) (v : OMergeState) → OMergeStep u act v → opening_omerge v ≡ opening_omerge u

@@ -1,6 +1,6 @@
 -- What ties the ports of an ordered merge to its state, by its mode. All is said of whole ins that go on from what was taken and
 -- hold the groups that their picks want: where a wrong message came, there are none.
-use Rattle.std.specs.Prelude.{◌≡◌, ℕ, ◌%◌, ◌<◌, Bool, true, false, nat_lt, if◌then◌else◌, List, [], ◌∷◌, ◌++◌, length, map}
+use Rattle.std.specs.Prelude.{◌≡◌, ℕ, ◌%◌, ◌<◌, Bool, true, false, nat_lt, if◌then◌else◌, List, [], ◌∷◌, ◌++◌, length, map, ◌≤◌, ◌⊎◌}
 use Rattle.std.specs.List.{AllByRecursion}
 use Rattle.ff_rec.specs.Lines.{Rec}
 use Rattle.ff_rec.specs.Streams.{at, carried}
@@ -9,7 +9,7 @@ use Rattle.ff_node.specs.Fits.{grouped, gather, picked, HoldGroups, all_marks}
 use Rattle.ff_node.specs.Picks.{turns, turns_from}
 use Rattle.ff_node.specs.Runs.{Message, AllGoOn}
 use Rattle.ff_port.specs.declared.answers.End.{End}
-use Rattle.ff_port.specs.declared.answers.End.TheVariants.{Eos}
+use Rattle.ff_port.specs.declared.answers.End.TheVariants.{Eos, Abort}
 use Rattle.ff_unit.specs.Closing.{any_live, all_live}
 use Rattle.ff_unit.specs.declared.mode.Mode.{Mode}
 use Rattle.ff_unit.specs.declared.mode.Mode.TheVariants.{Live, Shut, Cut}
@@ -17,6 +17,7 @@ use Rattle.ff_order.specs.OMerges.{OMergeState, omerge_ins}
 use Rattle.ff_order.specs.PortLaws.{FlagsFit}
 use Rattle.ff_order.specs.declared.order.Order.{Order}
 use Rattle.ff_order.specs.declared.order.Order.TheVariants.{InTurn, ByPick}
+use Rattle.ff_unit.specs.Units.{TookAbort}
 
 -- the picks by which whole ins are to be merged
 abbrev pub ArePicksOf : Order → ℕ → List (List Message) → List ℕ → Type 0
@@ -109,3 +110,15 @@ TiedAt Cut order n due live end gots t = TiedCut order n end gots t
 -- it took `gots` and put `p`
 abbrev pub TiedTo : OMergeState → List (List Message) → List Message → Type 0
 TiedTo u gots p = TiedAt u.mode u.order u.places u.due u.live u.end gots (p ++ u.held)
+
+-- the ports of an ordered merge after a run, tied to its state
+pub record IsTied (u : OMergeState) (gots puts : List (List Message)) : Type 0 where
+  pub some : 1 ≤ u.places
+  pub ins : length gots ≡ omerge_ins u.order u.places
+  pub lives : length u.live ≡ omerge_ins u.order u.places
+  pub due : u.due < omerge_ins u.order u.places
+  pub put : List Message
+  pub puts_are : puts ≡ put ∷ []
+  pub tied : TiedTo u gots put
+  pub ended : u.done ≡ true → (u.held ≡ []) × (any_live u.live ≡ false)
+  pub cause : u.end ≡ Abort → (u.told ≡ true) ⊎ TookAbort gots

@@ -11,7 +11,7 @@ use Rattle.ff_unit.specs.Deals.{next_place}
 use Rattle.ff_order.specs.GroupLaws.{picked-here}
 use Rattle.ff_order.specs.OMerges.{next_due}
 use Rattle.ff_order.specs.OMergeTiedLaws.{PicksLeft}
-use Rattle.ff_order.specs.PortLaws.{at-others}
+use Rattle.ff_unit.specs.TakenLaws.{at-added_other}
 use Rattle.ff_order.specs.declared.order.Order.{Order}
 use Rattle.ff_order.specs.declared.order.Order.TheVariants.{InTurn, ByPick}
 
@@ -37,7 +37,7 @@ module _ (n due : ℕ) (gots ins : List (List Message)) (within : due < n) where
   -- other ins than that of the picks tell nothing of them
   told-still : (m : Message) (rest : List ℕ) → at ins n ≡ at gots n ++ map (λ w. Pick w) rest
       → at ins n ≡ at (added gots due m) n ++ map (λ w. Pick w) rest
-  told-still m rest told = told ∙ ap (λ l. l ++ map (λ w. Pick w) rest) (sym (at-others gots due n m (λ e. absurd (omega arith))))
+  told-still m rest told = told ∙ ap (λ l. l ++ map (λ w. Pick w) rest) (sym (at-added_other gots due n m (λ e. absurd (omega arith))))
 
   pub PicksLeft-first : (order : Order) (some : 1 ≤ n) (picks : List ℕ) → PicksLeft order n due gots ins picks → 1 ≤ picked picks due
       → IsFirstPick order n due gots ins picks

@@ -1,5 +1,5 @@
--- Laws of the ports of a unit with several ins: which of its lists a message joins, and how lists go on.
-use Rattle.std.proofs.Common.{◌≡◌, ◌≢◌, ℕ, zero, suc, ◌<◌, Bool, true, false, List, [], ◌∷◌, ◌++◌, length, map, refl, sym, ap, ◌∙◌, append_assoc, append-nil, arith, get_or-set_same, get_or-set_other}
+-- How lists go on at the ports of a unit with several ins, and what its flags tell of them.
+use Rattle.std.proofs.Common.{◌≡◌, ℕ, zero, suc, ◌<◌, Bool, true, false, List, [], ◌∷◌, ◌++◌, length, map, refl, sym, ap, ◌∙◌, append_assoc, append-nil, arith}
 use Rattle.std.proofs.lemmas.Bool.{false≢true}
 use Rattle.std.proofs.lemmas.List.{append_cancel_left}
 use Rattle.std.specs.Prelude.{slice_set}
@@ -8,13 +8,7 @@ use Rattle.ff_rec.specs.declared.msg.Msg.TheVariants.{Eos as EosMsg}
 use Rattle.ff_node.specs.Runs.{Message, AllGoOn}
 use Rattle.ff_unit.specs.Closing.{IsLive, any_live}
 use Rattle.ff_unit.specs.MessageLaws.{IsOpen-append, unaborted-append, unaborted-open, unaborted-closed}
-
--- a message joins one list
-pub at-added : (lists : List (List Message)) (k : ℕ) (m : Message) → k < length lists → at (added lists k m) k ≡ at lists k ++ m ∷ []
-at-added lists k m h = get_or-set_same lists k (at lists k ++ m ∷ []) [] h
-
-pub at-others : (lists : List (List Message)) (k j : ℕ) (m : Message) → j ≢ k → at (added lists k m) j ≡ at lists j
-at-others lists k j m h = get_or-set_other lists k j (at lists k ++ m ∷ []) [] h
+use Rattle.ff_unit.specs.StageTiedLaws.{IsClosed}
 
 -- lists that go on from more go on from less
 pub AllGoOn-before : (gots ins : List (List Message)) (k : ℕ) (m : Message) → AllGoOn (added gots k m) ins → AllGoOn gots ins
@@ -54,19 +48,13 @@ GoesOn-next g inner ms m inner_open whole are h = (
       ∙ append_assoc g (m ∷ []) h.more),
 )
 
--- this list was ended by its one Eos
-pub record IsEnded (g : List Message) : Type 0 where
-  pub inner : List Message
-  pub open_inner : IsOpen inner
-  pub is : g ≡ closed inner
-
 -- the flags tell which ins gave their Eos; no Abort was taken
 abbrev pub FlagsFit : List Bool → List (List Message) → Type 0
 FlagsFit [] [] = Unit {0}
 FlagsFit [] (g ∷ gots) = ⊥
 FlagsFit (l ∷ live) [] = ⊥
 FlagsFit (true ∷ live) (g ∷ gots) = IsOpen g × FlagsFit live gots
-FlagsFit (false ∷ live) (g ∷ gots) = IsEnded g × FlagsFit live gots
+FlagsFit (false ∷ live) (g ∷ gots) = IsClosed g × FlagsFit live gots
 
 pub FlagsFit-at : (live : List Bool) (gots : List (List Message)) (k : ℕ) → FlagsFit live gots → IsLive live k → IsOpen (at gots k)
 FlagsFit-at [] gots k h on = absurd (false≢true on)

@@ -54,7 +54,7 @@ pub(crate) fn add_ofarm<N: Node>(
     ensures { OnOk result (units.new.items
         ≡ units.old.items ++ units_in N.does keep (OFarm workers sched (tree_of worker.now))) }
 {
-    units.push(NetUnit::of_deal(group_deal(sched, workers)))?;
+    units.push(NetUnit::of_odeal(group_deal(sched, workers)))?;
     add_copies(alloc, worker, workers, keep, units)?;
     units.push(NetUnit::of_omerge(group_merge(sched, workers)))?;
     Ok(())

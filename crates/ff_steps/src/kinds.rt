@@ -5,7 +5,7 @@ ghost use Rattle.ff_steps.specs.PlanUnits.{dealing, group_dealing, group_order, 
 ghost use Rattle.ff_unit.specs.Deals.{opened_deal};
 
 use ff_net::{Route, Sched};
-use ff_order::OMerge;
+use ff_order::{ODeal, OMerge};
 use ff_unit::Deal;
 
 /// The deal of a farm.
@@ -21,14 +21,14 @@ pub(crate) fn farm_deal(sched: Sched, workers: u32) -> Deal
 }
 
 /// The deal of an ordered farm.
-pub(crate) fn group_deal(sched: Sched, workers: u32) -> Deal
+pub(crate) fn group_deal(sched: Sched, workers: u32) -> ODeal
     requires some { 1 ≤ workers }
     requires few { workers ≤ 64 }
     ensures { result ≡ opened_deal (group_dealing sched) workers }
 {
     match sched {
-        Sched::Rr => Deal::strict_groups(workers),
-        Sched::Od => Deal::groups_on_demand(workers),
+        Sched::Rr => ODeal::strict(workers),
+        Sched::Od => ODeal::on_demand(workers),
     }
 }
 

@@ -3,13 +3,13 @@ ghost use Rattle.std.specs.Prelude.{◌≡◌};
 ghost use Rattle.ff_steps.specs.NetUnits.{AsStage, AsDeal, AsMerge, AsOMerge};
 
 use ff_node::{Comb, Node};
-use ff_order::OMerge;
+use ff_order::{ODeal, OMerge};
 use ff_port::{End, Ports, Step};
 use ff_rec::Record;
 use ff_unit::{Deal, Merge, Stage, Unit};
 use std::marker::Model;
 
-/// A unit of a network: a stage, a deal, a merge or an ordered merge.
+/// A unit of a network: a stage, a deal, a merge, or the deal or merge of an ordered farm.
 #[derive(Drop)]
 pub struct NetUnit<N> {
     part: Part<N>,
@@ -20,6 +20,7 @@ pub struct NetUnit<N> {
 enum Part<N> {
     Stage(Stage<Comb<N>>),
     Deal(Deal),
+    ODeal(ODeal),
     Merge(Merge),
     OMerge(OMerge),
 }
@@ -52,6 +53,15 @@ impl<N> NetUnit<N> {
         }
     }
 
+    /// A unit that is this ordered deal.
+    pub(crate) fn of_odeal(deal: ODeal) -> NetUnit<N>
+        ensures { result ≡ AsDeal deal }
+    {
+        NetUnit {
+            part: Part::ODeal(deal),
+        }
+    }
+
     /// A unit that is this merge.
     pub(crate) fn of_merge(merge: Merge) -> NetUnit<N>
         ensures { result ≡ AsMerge merge }
@@ -81,6 +91,7 @@ impl<N: Node> Unit for NetUnit<N> {
         match &mut self.part {
             Part::Stage(stage) => stage.step_once(ports),
             Part::Deal(deal) => deal.step_once(ports),
+            Part::ODeal(deal) => deal.step_once(ports),
             Part::Merge(merge) => merge.step_once(ports),
             Part::OMerge(merge) => merge.step_once(ports),
         }
@@ -90,6 +101,7 @@ impl<N: Node> Unit for NetUnit<N> {
         match &mut self.part {
             Part::Stage(stage) => stage.end_aborted(),
             Part::Deal(deal) => deal.end_aborted(),
+            Part::ODeal(deal) => deal.end_aborted(),
             Part::Merge(merge) => merge.end_aborted(),
             Part::OMerge(merge) => merge.end_aborted(),
         }
@@ -99,6 +111,7 @@ impl<N: Node> Unit for NetUnit<N> {
         match &mut self.part {
             Part::Stage(stage) => stage.take_kept(),
             Part::Deal(deal) => deal.take_kept(),
+            Part::ODeal(deal) => deal.take_kept(),
             Part::Merge(merge) => merge.take_kept(),
             Part::OMerge(merge) => merge.take_kept(),
         }
@@ -108,6 +121,7 @@ impl<N: Node> Unit for NetUnit<N> {
         match &self.part {
             Part::Stage(stage) => stage.end(),
             Part::Deal(deal) => deal.end(),
+            Part::ODeal(deal) => deal.end(),
             Part::Merge(merge) => merge.end(),
             Part::OMerge(merge) => merge.end(),
         }
@@ -117,6 +131,7 @@ impl<N: Node> Unit for NetUnit<N> {
         match &self.part {
             Part::Stage(stage) => stage.rejected(),
             Part::Deal(deal) => deal.rejected(),
+            Part::ODeal(deal) => deal.rejected(),
             Part::Merge(merge) => merge.rejected(),
             Part::OMerge(merge) => merge.rejected(),
         }

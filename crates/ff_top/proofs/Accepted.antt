@@ -17,7 +17,6 @@ use Rattle.ff_top.specs.declared.fault.Fault.{Fault}
 use Rattle.ff_top.specs.declared.fault.Fault.TheVariants.{Words, NotBuilt, Given, Run, Print, Soak}
 use Rattle.ff_top.specs.declared.given_fault.GivenFault.TheVariants as given
 use Rattle.ff_top.specs.declared.run_cause.RunCause.TheVariants as run
-use Rattle.ff_top.specs.declared.soak.SoakCause.TheVariants as soak
 use Rattle.ff_words.specs.Words.{command}
 use Rattle.ff_words.specs.declared.command.Command.{Command}
 use Rattle.ff_words.specs.declared.command.Command.TheVariants as of
@@ -48,8 +47,8 @@ NotBuilt-description words given h is =
 -- nor is a soak
 pub Soak-description : (words : List (List ℕ)) (given : GivenText) (n workers cap : ℕ) (queue : Queue) → command words ≡ Some (of.Soak n workers cap queue)
     → description words ≡ Some given → ⊥
-Soak-description words given n workers cap queue soak is =
-    let e : description words ≡ None = ap (λ (c : Option Command). option_and_then given_to c) soak in
+Soak-description words given n workers cap queue asked is =
+    let e : description words ≡ None = ap (λ (c : Option Command). option_and_then given_to c) asked in
     let f : Some given ≡ None = sym is ∙ e in cc
 
 pub DidSoak-description : (words : List (List ℕ)) (before now : Outside) (answer : Result ℕ Fault) (given : GivenText) → DidSoak words before now answer

@@ -158,27 +158,27 @@ module _ (law : ReadingLaw) (one : SpellingIsOfOneNet) (words : List (List ℕ))
   -- a soak is told only what its own run ended with
   soak-status : (status : ℕ) (fault : Fault) (n workers cap : ℕ) (queue : Queue) → status ≡ fault_status fault → IsQuiet before now
       → command words ≡ Some (of.Soak n workers cap queue) → Comes words before now (Err fault) → Counts before now (Err fault) → (status ≡ 0) ⊎ (status ≡ 6)
-  soak-status status (Words unread.Usage) n workers cap queue is quiet soak comes counts = absurd (None-Some (command words) (of.Soak n workers cap queue) comes.0 soak)
-  soak-status status (Words unread.NoMemory) n workers cap queue is quiet soak comes counts = inr is
-  soak-status status NotBuilt n workers cap queue is quiet soak comes counts = absurd (built_soak comes.0.job n workers cap queue comes.0.not_built (sym comes.0.is_command ∙ soak))
-  soak-status status (Given fault) n workers cap queue is quiet soak comes counts =
-      absurd (no_text (description words) _ (ap (λ (c : Option Command). option_and_then given_to c) soak) comes.0)
-  soak-status status (Run cause) n workers cap queue is quiet soak comes counts = absurd (Soak-description words comes.given n workers cap queue soak comes.is_description)
-  soak-status status (Print fault) n workers cap queue is quiet soak comes counts = absurd (Soak-description words comes.given n workers cap queue soak comes.is_description)
-  soak-status status (Soak soak.Refused) n workers cap queue is quiet soak comes counts = absurd (quiet.starts (Rose-more before.refused now.refused counts.starts))
-  soak-status status (Soak soak.Write) n workers cap queue is quiet soak comes counts = absurd (quiet.output (Rose-more before.output_faults now.output_faults counts.output))
-  soak-status status (Soak soak.NoMemory) n workers cap queue is quiet soak comes counts = inr is
+  soak-status status (Words unread.Usage) n workers cap queue is quiet asked comes counts = absurd (None-Some (command words) (of.Soak n workers cap queue) comes.0 asked)
+  soak-status status (Words unread.NoMemory) n workers cap queue is quiet asked comes counts = inr is
+  soak-status status NotBuilt n workers cap queue is quiet asked comes counts = absurd (built_soak comes.0.job n workers cap queue comes.0.not_built (sym comes.0.is_command ∙ asked))
+  soak-status status (Given fault) n workers cap queue is quiet asked comes counts =
+      absurd (no_text (description words) _ (ap (λ (c : Option Command). option_and_then given_to c) asked) comes.0)
+  soak-status status (Run cause) n workers cap queue is quiet asked comes counts = absurd (Soak-description words comes.given n workers cap queue asked comes.is_description)
+  soak-status status (Print fault) n workers cap queue is quiet asked comes counts = absurd (Soak-description words comes.given n workers cap queue asked comes.is_description)
+  soak-status status (Soak soak.Refused) n workers cap queue is quiet asked comes counts = absurd (quiet.starts (Rose-more before.refused now.refused counts.starts))
+  soak-status status (Soak soak.Write) n workers cap queue is quiet asked comes counts = absurd (quiet.output (Rose-more before.output_faults now.output_faults counts.output))
+  soak-status status (Soak soak.NoMemory) n workers cap queue is quiet asked comes counts = inr is
 
   pub complete : (status : ℕ) (answer : Result ℕ Fault) → status ≡ status_of answer → Comes words before now answer → Counts before now answer → IsComplete status words before now
   complete status (Ok n) is comes counts = record {
     done = λ quiet job t a within. inl is;
     beyond = λ quiet job t a beyond. elim comes [
       | inl did ↦ absurd (beyond-done job t n beyond (Did-accepted one words before now (Ok n) job t a did))
-      | inr soak ↦ absurd (DidSoak-description words before now (Ok n) a.given soak a.is_description)
+      | inr ran ↦ absurd (DidSoak-description words before now (Ok n) a.given ran a.is_description)
     ];
     refused = λ quiet r. elim comes [
       | inl did ↦ absurd (Did-refused one words before now (Ok n) r did)
-      | inr soak ↦ absurd (DidSoak-description words before now (Ok n) r.given soak r.is_description)
+      | inr ran ↦ absurd (DidSoak-description words before now (Ok n) r.given ran r.is_description)
     ];
     soaked = λ quiet m workers cap queue asked. inl is;
   }
@@ -253,7 +253,7 @@ module _ (words : List (List ℕ)) (before now : Outside) where
   pub no_command : (status : ℕ) (answer : Result ℕ Fault) → status ≡ status_of answer → Comes words before now answer → command words ≡ None → (status ≡ 1) ⊎ (status ≡ 6)
   no_command status (Ok n) is comes none = elim comes [
     | inl did ↦ absurd (None-Some (command words) did.job none did.is_command)
-    | inr soak ↦ absurd (None-Some (command words) _ none soak.is_command)
+    | inr ran ↦ absurd (None-Some (command words) _ none ran.is_command)
   ]
   no_command status (Err fault) is comes none = fault_no_command status fault is comes none
 

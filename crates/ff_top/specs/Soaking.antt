@@ -20,7 +20,7 @@ abbrev pub records_within : ℕ → ℕ
 records_within n = min n 10000000
 
 abbrev pub workers_within : ℕ → ℕ
-workers_within w = max 1 (min w 16)
+workers_within w = max (min w 16) 1
 
 -- what is written of a soak: the summary, which doesn't depend on the number of workers
 abbrev pub soaked : ℕ → List ℕ

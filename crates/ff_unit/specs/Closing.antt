@@ -1,5 +1,5 @@
 -- What units with several ins or outs share: which ins still give, what is held for each out, and how it will end.
-use Rattle.std.specs.Prelude.{◌≡◌, ℕ, zero, suc, Bool, true, false, if◌then◌else◌, List, [], ◌∷◌, ◌++◌, replicate, slice_index, slice_index_or, Option, None, Some}
+use Rattle.std.specs.Prelude.{◌≡◌, ℕ, Bool, true, false, if◌then◌else◌, List, [], ◌∷◌, replicate, slice_index, slice_index_or, Option, None, Some}
 use Rattle.ff_rec.specs.Lines.{Rec}
 use Rattle.ff_rec.specs.declared.msg.Msg.TheVariants.{Eos as EosMsg, Abort as AbortMsg}
 use Rattle.ff_node.specs.Runs.{Message}

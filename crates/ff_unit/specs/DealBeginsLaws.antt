@@ -1,14 +1,13 @@
 -- What a run of a deal has put begins what it sends for all of the in.
-use Rattle.std.specs.Prelude.{◌≡◌, ◌+◌, ◌<◌, ◌≤◌, ℕ, Bool, true, false, List, [], ◌∷◌, ◌++◌, length, Some}
+use Rattle.std.specs.Prelude.{◌≡◌, ◌+◌, ◌<◌, ◌≤◌, ℕ, Bool, true, false, List, [], ◌∷◌, ◌++◌, length}
 use Rattle.std.specs.Option.{option_to_list}
-use Rattle.std.proofs.Common.{refl, sym, ap, ◌∙◌, subst, arith, append-nil, append_assoc, length-append}
+use Rattle.std.proofs.Common.{sym, ap, ◌∙◌, subst, arith, append-nil, append_assoc}
 use Rattle.ff_rec.specs.Lines.{Rec}
-use Rattle.ff_rec.specs.Streams.{IsOpen, IsOpenMsg, at, items, unaborted, closed, GoesOn}
-use Rattle.ff_rec.specs.declared.msg.Msg.TheVariants.{Item, Mark, Pick, Eos as EosMsg, Abort as AbortMsg}
-use Rattle.ff_node.specs.Runs.{Message, AllGoOn, HasOuts, BeginsToFit, FitsWhole}
+use Rattle.ff_rec.specs.Streams.{IsOpen, at, items, unaborted, closed, GoesOn}
+use Rattle.ff_rec.specs.declared.msg.Msg.TheVariants.{Eos as EosMsg, Abort as AbortMsg}
+use Rattle.ff_node.specs.Runs.{Message, AllGoOn, HasOuts, BeginsToFit}
 use Rattle.ff_port.specs.declared.answers.End.{End}
 use Rattle.ff_port.specs.declared.answers.End.TheVariants.{Eos, Abort, Memory}
-use Rattle.ff_unit.specs.Closing.{decided}
 use Rattle.ff_unit.specs.Deals.{DealState, FitsDeal, deal_outs}
 use Rattle.ff_unit.specs.MessageLaws.{items-append, unaborted-append, unaborted-open, unaborted-closed, unaborted-cut}
 use Rattle.ff_unit.specs.CarriedLaws.{items-closed, items-unaborted, closed-behind}
@@ -16,7 +15,7 @@ use Rattle.std.proofs.lemmas.List.{append_cancel_right}
 use Rattle.ff_unit.specs.DealFitsLaws.{outs_of, FitsDeal-sent}
 use Rattle.ff_unit.specs.DealPairLaws.{Pair, IsInner, AreInner, AllByRecursion-front, on, on-append, IsOpen-on}
 use Rattle.ff_unit.specs.DealPickLaws.{IsPicked, IsPicked-some, IsPicked-append, some_picks}
-use Rattle.ff_unit.specs.DealRowLaws.{AllGoOn-rows, rows-closed}
+use Rattle.ff_unit.specs.DealRowLaws.{AllGoOn-rows}
 use Rattle.ff_unit.specs.DealSentLaws.{sent, sent-append, AreInner-sent}
 use Rattle.ff_unit.specs.DealTellingLaws.{on-telling}
 use Rattle.ff_unit.specs.DealTiedLaws.{TiedLive, TiedShut, TiedCut, TiedAt, IsTied}

@@ -1,28 +1,19 @@
 -- A deal that is cut off stays tied to its ports.
-use Rattle.std.specs.Prelude.{◌≡◌, ◌<◌, ◌≤◌, ℕ, suc, Bool, true, false, List, [], ◌∷◌, ◌++◌, length, Option, None, Some, IsSome}
+use Rattle.std.specs.Prelude.{◌≡◌, Bool, true, false, List, [], ◌∷◌, ◌++◌, Option, None}
 use Rattle.std.specs.Option.{option_to_list}
-use Rattle.std.proofs.Common.{refl, sym, ap, ◌∙◌, subst, arith, append-nil, append_assoc, inr, length-append}
-use Rattle.std.proofs.lemmas.Bool.{false≢true}
-use Rattle.ff_rec.specs.Fields.{field_at}
+use Rattle.std.proofs.Common.{refl, sym, ap, ◌∙◌, subst, append_assoc}
 use Rattle.ff_rec.specs.Lines.{Rec}
-use Rattle.ff_rec.specs.Streams.{IsOpenMsg, items}
-use Rattle.ff_rec.specs.declared.msg.Msg.TheVariants.{Item, Mark, Pick, Eos as EosMsg, Abort as AbortMsg}
-use Rattle.ff_node.specs.Picks.{place_of}
+use Rattle.ff_rec.specs.Streams.{items}
+use Rattle.ff_rec.specs.declared.msg.Msg.TheVariants.{Eos as EosMsg, Abort as AbortMsg}
 use Rattle.ff_node.specs.Runs.{Message}
 use Rattle.ff_port.specs.declared.answers.End.{End}
 use Rattle.ff_port.specs.declared.answers.End.TheVariants.{Eos, Abort, Memory}
-use Rattle.ff_unit.specs.Closing.{spoiled}
-use Rattle.ff_unit.specs.Deals.{DealState, MayBeRefused, behind, deal_outs, deal_takes, deal_ends, deals, deals_one, next_place, on_outs}
-use Rattle.ff_unit.specs.MessageLaws.{IsOpen-append, items-append}
-use Rattle.ff_unit.specs.Units.{HasAbort}
-use Rattle.ff_unit.specs.declared.dealing.Dealing.{Dealing}
-use Rattle.ff_unit.specs.declared.dealing.Dealing.TheVariants.{InTurn, OnDemand, ByKey, GroupsInTurn, GroupsOnDemand}
+use Rattle.ff_unit.specs.Deals.{DealState, MayBeRefused, deal_outs, deal_ends, on_outs}
+use Rattle.ff_unit.specs.MessageLaws.{items-append}
 use Rattle.ff_unit.specs.DealPairLaws.{Pair}
-use Rattle.ff_unit.specs.DealPickLaws.{IsOnDemand, IsPicked, IsPicked-push, IsPlace, place_of-lt}
-use Rattle.ff_unit.specs.DealSentLaws.{sent, sent-push}
+use Rattle.ff_unit.specs.DealSentLaws.{sent}
 use Rattle.ff_unit.specs.DealTellingLaws.{IsTelling-start, IsTelling-refuses}
-use Rattle.ff_unit.specs.DealTiedLaws.{IsTelling, TiedLive, TiedShut, TiedCut, TiedAt, Tied}
-use Rattle.ff_unit.specs.DealTurnLaws.{IsTurn}
+use Rattle.ff_unit.specs.DealTiedLaws.{IsTelling, TiedLive, TiedCut, TiedAt}
 
 module _ (u : DealState) (g : List Message) (ps : List Pair) where
   -- it is cut off while its in gives: what was put is a front

@@ -1,60 +1,24 @@
 -- Every run of a deal keeps it tied to its ports.
-use Rattle.std.specs.Prelude.{◌≡◌, ◌<◌, ◌≤◌, ℕ, Bool, true, false, List, [], ◌∷◌, ◌++◌, replicate, Option, None, Some}
-use Rattle.std.proofs.Common.{refl, sym, ap, ap₂, ◌∙◌, subst, arith, inl, inr}
+use Rattle.std.specs.Prelude.{◌≡◌, ◌<◌, ◌≤◌, ℕ, true, false, List, [], ◌∷◌, ◌++◌, Option, None, Some}
+use Rattle.std.proofs.Common.{refl, sym, ap, ap₂, ◌∙◌, subst, inl, inr}
 use Rattle.std.proofs.lemmas.Bool.{false≢true}
 use Rattle.std.proofs.lemmas.Option.{none-some}
 use Rattle.ff_rec.specs.Lines.{Rec}
 use Rattle.ff_rec.specs.Streams.{added}
 use Rattle.ff_rec.specs.declared.msg.Msg.TheVariants.{Item, Abort as AbortMsg}
 use Rattle.ff_node.specs.Runs.{Message, Act, Took, Gave, Refused, Idle, Told, Handed, HasRun, took, gave}
-use Rattle.ff_port.specs.declared.answers.End.{End}
 use Rattle.ff_port.specs.declared.answers.End.TheVariants.{Eos, Abort, Memory}
-use Rattle.ff_unit.specs.Deals.{DealState, DealStep, DealGives, MayBeRefused, behind, deal_outs, deal_takes, on_outs, opened_deal, opening_deal}
+use Rattle.ff_unit.specs.Deals.{DealState, DealStep, DealGives, MayBeRefused, behind, deal_outs, deal_takes, on_outs, opening_deal}
 use Rattle.ff_unit.specs.RunLaws.{HasRun-keeps}
-use Rattle.ff_unit.specs.declared.dealing.Dealing.{Dealing}
-use Rattle.ff_unit.specs.declared.dealing.Dealing.TheVariants.{InTurn, OnDemand, ByKey, GroupsInTurn, GroupsOnDemand}
 use Rattle.ff_unit.specs.DealCutLaws.{TiedCut-live, TiedAt-refused}
 use Rattle.ff_unit.specs.DealGivesLaws.{TiedAt-held, TiedAt-free}
 use Rattle.ff_unit.specs.DealKindLaws.{deal_takes-same}
 use Rattle.ff_unit.specs.DealOpenedLaws.{IsTied-opened}
 use Rattle.ff_unit.specs.DealPairLaws.{Pair}
-use Rattle.ff_unit.specs.DealPickLaws.{IsPicked}
-use Rattle.ff_unit.specs.DealRowLaws.{ArePut, ArePut-none, ArePut-added}
+use Rattle.ff_unit.specs.DealRowLaws.{ArePut, ArePut-added}
 use Rattle.ff_unit.specs.DealTakesLaws.{deal_takes-tied}
 use Rattle.ff_unit.specs.DealTiedLaws.{TiedLive, TiedAt, IsTied}
-use Rattle.ff_unit.specs.DealTurnLaws.{IsTurn}
-
--- a deal that ends stays tied
-TiedAt-done : (u : DealState) (g : List Message) (ps : List Pair) (live : Bool) (end : End) → live ≡ false → TiedAt live end u g ps → TiedAt live end (record u { done = true }) g ps
-TiedAt-done u g ps true end ended t = absurd (false≢true (sym ended))
-TiedAt-done u g ps false Eos ended t = record { ms = t.ms; inner = t.inner; is = t.is; picks = t.picks; picked = t.picked; none = t.none; telling = t.telling }
-TiedAt-done u g ps false Abort ended t = (
-  record {
-    picks = t.0.picks;
-    xs = t.0.xs;
-    more = t.0.more;
-    picked = t.0.picked;
-    items_are = t.0.items_are;
-    none = t.0.none;
-    front = t.0.front;
-    rest = t.0.rest;
-    splits = t.0.splits;
-    telling = t.0.telling;
-  },
-  t.1,
-)
-TiedAt-done u g ps false Memory ended t = record {
-  picks = t.picks;
-  xs = t.xs;
-  more = t.more;
-  picked = t.picked;
-  items_are = t.items_are;
-  none = t.none;
-  front = t.front;
-  rest = t.rest;
-  splits = t.splits;
-  telling = t.telling;
-}
+use Rattle.ff_unit.specs.DealDoneLaws.{TiedAt-done}
 
 module _ (u : DealState) (gots puts : List (List Message)) (t : IsTied u gots puts) where
   -- a message is taken

@@ -1,26 +1,13 @@
 -- A deal that made no step is tied to its ports.
-use Rattle.std.specs.Prelude.{◌≡◌, ◌<◌, ◌≤◌, ℕ, Bool, true, false, List, [], ◌∷◌, ◌++◌, replicate, Option, None, Some}
-use Rattle.std.proofs.Common.{refl, sym, ap, ap₂, ◌∙◌, subst, arith, inl, inr}
+use Rattle.std.specs.Prelude.{◌≤◌, ℕ, [], ◌∷◌, replicate}
+use Rattle.std.proofs.Common.{refl, arith}
 use Rattle.std.proofs.lemmas.Bool.{false≢true}
-use Rattle.std.proofs.lemmas.Option.{none-some}
-use Rattle.ff_rec.specs.Lines.{Rec}
-use Rattle.ff_rec.specs.Streams.{added}
-use Rattle.ff_rec.specs.declared.msg.Msg.TheVariants.{Item, Abort as AbortMsg}
-use Rattle.ff_node.specs.Runs.{Message, Act, Took, Gave, Refused, Idle, Told, Handed, HasRun, took, gave}
-use Rattle.ff_port.specs.declared.answers.End.{End}
-use Rattle.ff_port.specs.declared.answers.End.TheVariants.{Eos, Abort, Memory}
-use Rattle.ff_unit.specs.Deals.{DealState, DealStep, DealGives, MayBeRefused, behind, deal_outs, deal_takes, on_outs, opened_deal, opening_deal}
-use Rattle.ff_unit.specs.RunLaws.{HasRun-keeps}
+use Rattle.ff_unit.specs.Deals.{deal_outs, opened_deal}
 use Rattle.ff_unit.specs.declared.dealing.Dealing.{Dealing}
 use Rattle.ff_unit.specs.declared.dealing.Dealing.TheVariants.{InTurn, OnDemand, ByKey, GroupsInTurn, GroupsOnDemand}
-use Rattle.ff_unit.specs.DealCutLaws.{TiedCut-live, TiedAt-refused}
-use Rattle.ff_unit.specs.DealGivesLaws.{TiedAt-held, TiedAt-free}
-use Rattle.ff_unit.specs.DealKindLaws.{deal_takes-same}
-use Rattle.ff_unit.specs.DealPairLaws.{Pair}
 use Rattle.ff_unit.specs.DealPickLaws.{IsPicked}
-use Rattle.ff_unit.specs.DealRowLaws.{ArePut, ArePut-none, ArePut-added}
-use Rattle.ff_unit.specs.DealTakesLaws.{deal_takes-tied}
-use Rattle.ff_unit.specs.DealTiedLaws.{TiedLive, TiedAt, IsTied}
+use Rattle.ff_unit.specs.DealRowLaws.{ArePut-none}
+use Rattle.ff_unit.specs.DealTiedLaws.{IsTied}
 use Rattle.ff_unit.specs.DealTurnLaws.{IsTurn}
 
 -- a deal that made no step

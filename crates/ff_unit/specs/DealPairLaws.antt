@@ -1,11 +1,11 @@
 -- Messages in the order in which they are put, each with its out, and what of them goes to each out.
-use Rattle.std.specs.Prelude.{◌≡◌, ◌≢◌, ◌+◌, ◌<◌, ◌≤◌, ◌==◌, if◌then◌else◌, ℕ, zero, suc, Bool, true, false, List, [], ◌∷◌, ◌++◌, length, map, replicate}
+use Rattle.std.specs.Prelude.{◌≡◌, ◌≢◌, ◌+◌, ◌<◌, ◌≤◌, ◌==◌, if◌then◌else◌, ℕ, zero, suc, Bool, true, false, List, [], ◌∷◌, ◌++◌}
 use Rattle.std.specs.List.{AllByRecursion}
-use Rattle.std.proofs.Common.{refl, sym, ap, ◌∙◌, subst, ⊎_elim, arith, cond, append-nil, length-set, get_or-set_same, get_or-set_other}
+use Rattle.std.proofs.Common.{refl, ap, ◌∙◌, ⊎_elim, arith, cond}
 use Rattle.std.proofs.lemmas.Bool.{eq-eqb, cases_eq}
 use Rattle.std.proofs.lemmas.Bool.Decides.{eqb_tells}
-use Rattle.ff_rec.specs.Streams.{IsOpen, IsOpenMsg, at, added, unaborted, closed, GoesOn}
-use Rattle.ff_node.specs.Runs.{Message, AllGoOn}
+use Rattle.ff_rec.specs.Streams.{IsOpen, IsOpenMsg}
+use Rattle.ff_node.specs.Runs.{Message}
 use Rattle.ff_unit.specs.Deals.{on_outs}
 
 -- a message with its out

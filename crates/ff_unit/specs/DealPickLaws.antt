@@ -1,19 +1,14 @@
 -- The picks of a deal, by its way.
-use Rattle.std.specs.Prelude.{◌≡◌, ◌≢◌, ◌+◌, ◌%◌, ◌<◌, ◌≤◌, ◌==◌, ℕ, zero, suc, true, false, List, [], ◌∷◌, ◌++◌, length, replicate, Option, None, Some}
+use Rattle.std.specs.Prelude.{◌≡◌, ◌+◌, ◌%◌, ◌<◌, ◌≤◌, ℕ, zero, suc, List, [], ◌∷◌, ◌++◌, length, replicate, Option, None, Some}
 use Rattle.std.specs.List.{AllByRecursion}
-use Rattle.std.proofs.Common.{refl, sym, ap, ap₂, ◌∙◌, ⊎_elim, arith, cond, append-nil, append_assoc, length-append, mod-lt}
+use Rattle.std.proofs.Common.{refl, sym, ap, ap₂, ◌∙◌, arith, length-append, mod-lt}
 use Rattle.std.proofs.lemmas.List.{map-append}
-use Rattle.std.proofs.lemmas.Bool.{eq-eqb, cases_eq}
-use Rattle.std.proofs.lemmas.Bool.Decides.{eqb_tells}
-use Rattle.std.proofs.Math.Nat.{suc-mod, mod_self, mod-eq_of_lt}
 use Rattle.ff_rec.specs.Fields.{field_at}
 use Rattle.ff_rec.specs.Lines.{Rec}
-use Rattle.ff_rec.specs.declared.msg.Msg.TheVariants.{Item}
 use Rattle.ff_node.specs.Picks.{turns_from, by_key, place_of, hash_from}
-use Rattle.ff_unit.specs.Deals.{behind, next_place, deal_outs}
 use Rattle.ff_unit.specs.declared.dealing.Dealing.{Dealing}
 use Rattle.ff_unit.specs.declared.dealing.Dealing.TheVariants.{InTurn, OnDemand, ByKey, GroupsInTurn, GroupsOnDemand}
-use Rattle.ff_unit.specs.DealPairLaws.{Pair, IsInner, AreInner, AllByRecursion-append}
+use Rattle.ff_unit.specs.DealPairLaws.{AllByRecursion-append}
 
 -- each record goes to the first place that has room
 abbrev pub IsOnDemand : Dealing → Type 0

@@ -1,12 +1,9 @@
 -- What was put on each out, by the messages in the order in which they were put.
-use Rattle.std.specs.Prelude.{◌≡◌, ◌≢◌, ◌+◌, ◌<◌, ◌≤◌, ◌==◌, if◌then◌else◌, ℕ, zero, suc, Bool, true, false, List, [], ◌∷◌, ◌++◌, length, map, replicate}
-use Rattle.std.specs.List.{AllByRecursion}
-use Rattle.std.proofs.Common.{refl, sym, ap, ◌∙◌, subst, ⊎_elim, arith, cond, append-nil, length-set, get_or-set_same, get_or-set_other}
-use Rattle.std.proofs.lemmas.Bool.{eq-eqb, cases_eq}
-use Rattle.std.proofs.lemmas.Bool.Decides.{eqb_tells}
-use Rattle.ff_rec.specs.Streams.{IsOpen, IsOpenMsg, at, added, unaborted, closed, GoesOn}
+use Rattle.std.specs.Prelude.{◌≡◌, ◌+◌, ◌<◌, ℕ, zero, suc, List, [], ◌∷◌, ◌++◌, length, map, replicate}
+use Rattle.std.proofs.Common.{refl, sym, ap, ◌∙◌, subst, ⊎_elim, arith, append-nil}
+use Rattle.std.proofs.lemmas.Bool.{cases_eq}
+use Rattle.ff_rec.specs.Streams.{at, added, unaborted, closed, GoesOn}
 use Rattle.ff_node.specs.Runs.{Message, AllGoOn}
-use Rattle.ff_unit.specs.Deals.{on_outs}
 use Rattle.std.proofs.lemmas.List.{length-replicate}
 use Rattle.ff_unit.specs.TakenLaws.{at-added, at-added_other, at-none, length-added}
 use Rattle.ff_unit.specs.DealPairLaws.{Pair, on, on-append, on-own, on-other}

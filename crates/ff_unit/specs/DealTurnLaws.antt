@@ -1,16 +1,10 @@
 -- The place whose turn it is.
-use Rattle.std.specs.Prelude.{◌≡◌, ◌≢◌, ◌+◌, ◌%◌, ◌<◌, ◌≤◌, ◌==◌, ℕ, zero, suc, true, false, List, [], ◌∷◌, ◌++◌, length, replicate, Option, None, Some}
-use Rattle.std.specs.List.{AllByRecursion}
-use Rattle.std.proofs.Common.{refl, sym, ap, ap₂, ◌∙◌, ⊎_elim, arith, cond, append-nil, append_assoc, length-append, mod-lt}
-use Rattle.std.proofs.lemmas.List.{map-append}
+use Rattle.std.specs.Prelude.{◌≡◌, ◌≢◌, ◌%◌, ◌<◌, ◌≤◌, ◌==◌, ℕ, suc, true, false}
+use Rattle.std.proofs.Common.{sym, ap, ◌∙◌, ⊎_elim, arith, cond, mod-lt}
 use Rattle.std.proofs.lemmas.Bool.{eq-eqb, cases_eq}
 use Rattle.std.proofs.lemmas.Bool.Decides.{eqb_tells}
 use Rattle.std.proofs.Math.Nat.{suc-mod, mod_self, mod-eq_of_lt}
-use Rattle.ff_rec.specs.Fields.{field_at}
-use Rattle.ff_rec.specs.Lines.{Rec}
-use Rattle.ff_rec.specs.declared.msg.Msg.TheVariants.{Item}
-use Rattle.ff_node.specs.Picks.{turns_from, by_key, place_of, hash_from}
-use Rattle.ff_unit.specs.Deals.{behind, next_place, deal_outs}
+use Rattle.ff_unit.specs.Deals.{next_place}
 use Rattle.ff_unit.specs.declared.dealing.Dealing.{Dealing}
 use Rattle.ff_unit.specs.declared.dealing.Dealing.TheVariants.{InTurn, OnDemand, ByKey, GroupsInTurn, GroupsOnDemand}
 

@@ -1,23 +1,18 @@
 -- A deal that has ended by Eos fits what it took and put.
-use Rattle.std.specs.Prelude.{◌≡◌, ◌+◌, ◌<◌, ◌≤◌, ℕ, Bool, true, false, List, [], ◌∷◌, ◌++◌, length, Some}
-use Rattle.std.specs.Option.{option_to_list}
-use Rattle.std.proofs.Common.{refl, sym, ap, ◌∙◌, subst, arith, append-nil, append_assoc, length-append}
-use Rattle.ff_rec.specs.Lines.{Rec}
-use Rattle.ff_rec.specs.Streams.{IsOpen, IsOpenMsg, at, items, unaborted, closed, GoesOn}
-use Rattle.ff_rec.specs.declared.msg.Msg.TheVariants.{Item, Mark, Pick, Eos as EosMsg, Abort as AbortMsg}
-use Rattle.ff_node.specs.Runs.{Message, AllGoOn, HasOuts, BeginsToFit, FitsWhole}
-use Rattle.ff_port.specs.declared.answers.End.{End}
-use Rattle.ff_port.specs.declared.answers.End.TheVariants.{Eos, Abort, Memory}
+use Rattle.std.specs.Prelude.{◌≡◌, ◌+◌, true, false, List, [], ◌∷◌, ◌++◌, Some}
+use Rattle.std.proofs.Common.{sym, ap, ◌∙◌, subst, arith, append-nil}
+use Rattle.ff_rec.specs.Streams.{items, closed}
+use Rattle.ff_rec.specs.declared.msg.Msg.TheVariants.{Eos as EosMsg}
+use Rattle.ff_node.specs.Runs.{Message, FitsWhole}
+use Rattle.ff_port.specs.declared.answers.End.TheVariants.{Eos}
 use Rattle.ff_unit.specs.Closing.{decided}
 use Rattle.ff_unit.specs.Deals.{DealState, FitsDeal, deal_outs}
-use Rattle.ff_unit.specs.MessageLaws.{items-append, unaborted-append, unaborted-open, unaborted-closed, unaborted-cut}
 use Rattle.ff_unit.specs.DealFitsLaws.{outs_of, FitsDeal-sent}
-use Rattle.ff_unit.specs.DealPairLaws.{Pair, IsInner, AreInner, AllByRecursion-front, on, on-append, IsOpen-on}
-use Rattle.ff_unit.specs.DealPickLaws.{IsPicked, IsPicked-some, IsPicked-append, some_picks}
-use Rattle.ff_unit.specs.DealRowLaws.{AllGoOn-rows, rows-closed}
-use Rattle.ff_unit.specs.DealSentLaws.{sent, sent-append, AreInner-sent}
+use Rattle.ff_unit.specs.DealPairLaws.{on}
+use Rattle.ff_unit.specs.DealRowLaws.{rows-closed}
+use Rattle.ff_unit.specs.DealSentLaws.{sent}
 use Rattle.ff_unit.specs.DealTellingLaws.{on-telling}
-use Rattle.ff_unit.specs.DealTiedLaws.{TiedLive, TiedShut, TiedCut, TiedAt, IsTied}
+use Rattle.ff_unit.specs.DealTiedLaws.{TiedShut, TiedAt, IsTied}
 
 whole-shut : (u : DealState) (gots puts : List (List Message)) (t : IsTied u gots puts) → u.held ≡ [] → TiedShut u t.got t.given → FitsWhole (FitsDeal u.way u.places) gots puts
 whole-shut u gots puts t none s =

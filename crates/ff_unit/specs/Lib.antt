@@ -31,6 +31,7 @@ pub mod StageLaws
 pub mod MergeTiedLaws
 pub mod MergeInsLaws
 pub mod MergeKeptLaws
+pub mod MergeRestsLaws
 pub mod MergeFitsLaws
 pub mod MergeLaws
 pub mod DealPairLaws
@@ -44,8 +45,10 @@ pub mod DealKindLaws
 pub mod DealTellingLaws
 pub mod DealGivesLaws
 pub mod DealCutLaws
+pub mod DealDealtLaws
 pub mod DealTakesLaws
 pub mod DealOpenedLaws
+pub mod DealDoneLaws
 pub mod DealKeptLaws
 pub mod DealReadyLaws
 pub mod DealBeginsLaws

@@ -1,9 +1,9 @@
 -- What a merge put begins what it puts for all of its ins, and once it has ended by Eos is all of that.
-use Rattle.std.proofs.Common.{◌≡◌, ℕ, zero, suc, ◌+◌, ◌<◌, ◌≤◌, Bool, true, false, List, [], ◌∷◌, ◌++◌, length, map, get_or, slice_index_or, Some, refl, sym, ap, ◌∙◌, subst, append_assoc, append-nil, arith}
+use Rattle.std.proofs.Common.{◌≡◌, ℕ, ◌+◌, ◌<◌, ◌≤◌, Bool, true, false, List, [], ◌∷◌, ◌++◌, length, map, get_or, slice_index_or, Some, refl, sym, ap, ◌∙◌, subst, append_assoc, append-nil, arith}
 use Rattle.std.proofs.lemmas.Option.{none-some}
 use Rattle.std.proofs.lemmas.List.{map-append, get_or-map, length-map}
 use Rattle.ff_rec.specs.Lines.{Rec}
-use Rattle.ff_rec.specs.Streams.{at, items, carried, closed, unaborted, GoesOn}
+use Rattle.ff_rec.specs.Streams.{at, items, carried, closed, unaborted}
 use Rattle.ff_rec.specs.declared.msg.Msg.TheVariants.{Eos as EosMsg, Abort as AbortMsg}
 use Rattle.ff_node.specs.Fits.{FitsMerge}
 use Rattle.ff_node.specs.Picks.{ArePicks, share}
@@ -12,10 +12,11 @@ use Rattle.ff_port.specs.declared.answers.End.{End}
 use Rattle.ff_port.specs.declared.answers.End.TheVariants.{Eos, Abort, Memory}
 use Rattle.ff_unit.specs.Closing.{any_live, decided}
 use Rattle.ff_unit.specs.Merges.{MergeState}
-use Rattle.ff_unit.specs.CarriedLaws.{items-carried, items-unaborted, items-closed, closed-behind}
+use Rattle.ff_unit.specs.CarriedLaws.{items-carried, items-closed}
 use Rattle.ff_unit.specs.FlagLaws.{live-none}
+use Rattle.ff_unit.specs.MergeRestsLaws.{rests, length-rests, length-goes_on, items-rests, rests-closed, AreClosed-each}
 use Rattle.ff_unit.specs.MergeTiedLaws.{InTied, OutTied, IsCutOff, MergeTied}
-use Rattle.ff_unit.specs.MessageLaws.{IsOpen-carried, items-append, unaborted-append, unaborted-open, unaborted-closed, unaborted-cut}
+use Rattle.ff_unit.specs.MessageLaws.{IsOpen-carried, unaborted-append, unaborted-open, unaborted-closed, unaborted-cut}
 use Rattle.ff_unit.specs.ShareLaws.{joined, blocks, share-append, share-blocks, ArePicks-append, ArePicks-blocks}
 use Rattle.ff_unit.specs.StageTiedLaws.{IsClosed}
 
@@ -29,50 +30,6 @@ FitsMerge-shares n ins picks ys number are shares = (number, refl, λ xss e. (ys
         let within : j < length xss = omega (arith, below, number, ap length e, length-map xss (carried {T = Rec})) in
         let is : at ins j ≡ carried (get_or xss j []) = ap (λ ls. at ls j) e ∙ get_or-map carried xss j [] [] within in
         is ∙ ap carried (sym (items-carried (get_or xss j [])) ∙ ap items (sym is) ∙ shares j below)
-
--- the records with which each in goes on
-abbrev rests : (gots ins : List (List Message)) → AllGoOn gots ins → List (List Rec)
-rests [] [] on = []
-rests [] (ms ∷ ins) on = absurd on
-rests (g ∷ gots) [] on = absurd on
-rests (g ∷ gots) (ms ∷ ins) on = items on.0.more ∷ rests gots ins on.1
-
-length-rests : (gots ins : List (List Message)) (on : AllGoOn gots ins) → length (rests gots ins on) ≡ length gots
-length-rests [] [] on = refl
-length-rests [] (ms ∷ ins) on = absurd on
-length-rests (g ∷ gots) [] on = absurd on
-length-rests (g ∷ gots) (ms ∷ ins) on = ap suc (length-rests gots ins on.1)
-
-length-goes_on : (gots ins : List (List Message)) → AllGoOn gots ins → length ins ≡ length gots
-length-goes_on [] [] on = refl
-length-goes_on [] (ms ∷ ins) on = absurd on
-length-goes_on (g ∷ gots) [] on = absurd on
-length-goes_on (g ∷ gots) (ms ∷ ins) on = ap suc (length-goes_on gots ins on.1)
-
--- an in that goes on carries what was taken and the rest
-items-goes_on : (g ms : List Message) (on : GoesOn (unaborted g) ms) → items ms ≡ items g ++ items on.more
-items-goes_on g ms on =
-    sym (items-closed ms) ∙ ap items on.is ∙ items-append (unaborted g) on.more ∙ ap (λ l. l ++ items on.more) (items-unaborted g)
-
-items-rests : (gots ins : List (List Message)) (on : AllGoOn gots ins) (j : ℕ) → items (at ins j) ≡ items (at gots j) ++ get_or (rests gots ins on) j []
-items-rests [] [] on j = refl
-items-rests [] (ms ∷ ins) on j = absurd on
-items-rests (g ∷ gots) [] on j = absurd on
-items-rests (g ∷ gots) (ms ∷ ins) on zero = items-goes_on g ms on.0
-items-rests (g ∷ gots) (ms ∷ ins) on (suc j) = items-rests gots ins on.1 j
-
--- an in that has ended goes on with nothing
-rest-closed : (g ms : List Message) → IsClosed g → (on : GoesOn (unaborted g) ms) → on.more ≡ []
-rest-closed g ms c on =
-    closed-behind ms c.inner on.more on.inner (on.is ∙ ap (λ l. unaborted l ++ on.more) c.is ∙ ap (λ l. l ++ on.more) (unaborted-closed c.inner c.open_inner))
-
-rests-closed : (gots ins : List (List Message)) (on : AllGoOn gots ins) → ((j : ℕ) → j < length gots → IsClosed (at gots j)) → joined (rests gots ins on) ≡ []
-rests-closed [] [] on c = refl
-rests-closed [] (ms ∷ ins) on c = absurd on
-rests-closed (g ∷ gots) [] on c = absurd on
-rests-closed (g ∷ gots) (ms ∷ ins) on c =
-    ap (λ l. items l ++ joined (rests gots ins on.1)) (rest-closed g ms (c 0 (omega arith)) on.0)
-    ∙ rests-closed gots ins on.1 (λ j below. c (suc j) (omega (arith, below)))
 
 -- what was put and is held goes on to all the records, and to no more than those taken where its end was told
 OutTied-goes_on : (end : End) (any : Bool) (t : List Message) (ys zs : List Rec) → OutTied end any t ys → (end ≡ Eos → any ≡ false → zs ≡ [])
@@ -145,20 +102,6 @@ module _ (n : ℕ) (u : MergeState) (gots puts : List (List Message)) (t : Merge
             ∙ ap (λ l. share t.ins.picks t.ys j ++ l) (sym (share-blocks 0 rs j j (omega arith)))
             ∙ sym (share-append t.ins.picks (blocks 0 rs) t.ys zs j t.ins.picks_are.each));
       }
-
--- lists each of which was closed by its one Eos
-record AreClosed (gots : List (List Message)) : Type 0 where
-  inner : List (List Message)
-  are : gots ≡ map closed inner
-
-AreClosed-each : (gots : List (List Message)) → ((j : ℕ) → j < length gots → IsClosed (at gots j)) → AreClosed gots
-AreClosed-each [] c = record { inner = []; are = refl }
-AreClosed-each (g ∷ gots) c =
-    let first = c 0 (omega arith) in
-    let rest = AreClosed-each gots (λ j below. c (suc j) (omega (arith, below))) in record {
-      inner = first.inner ∷ rest.inner;
-      are = ap (λ l. l ∷ gots) first.is ∙ ap (λ ls. closed first.inner ∷ ls) rest.are;
-    }
 
 -- how a merge that ended by Eos stands
 decided-eos : (any : Bool) (end : End) → decided any end ≡ Some Eos → (any ≡ false) × (end ≡ Eos)

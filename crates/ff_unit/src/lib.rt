@@ -1,5 +1,5 @@
-//! The units of a network: what each of them is seen as and promises, and those that work on one stream. A stage runs a node
-//! between its in and its out.
+//! The units of a network: what each of them is seen as and promises, and those that don't keep an order between several streams. A
+//! stage runs a node between its in and its out, a deal hands records out to several outs, and a merge brings several ins together.
 #![tactic(auto)]
 
 mod aborts;

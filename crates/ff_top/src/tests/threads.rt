@@ -26,12 +26,12 @@ run 'pipe(take 3, take 2, take 1)' | 1\n2\n3\n4\n | 0 | 1\n |
 // Nodes that send at the end.
 run 'pipe(total 1, add 1 1, tally)' | \[2000 1\nx\n] | 0 | 1\n | ffrun: 2000 rejected\n
 // Farms, ordered farms and all-to-alls, before and behind a node that ends by itself, and within one another.
-run 'pipe(farm 4 rr (mul 1 3), total 1)' | \[2000 1\n2\nx\n] | 0 | 18000\n | ffrun: 2000 rejected\n
-run 'pipe(farm 3 od (farm 2 rr (add 1 1)), tally)' | \[2000 1\nx\n] | 0 | 2000\n | ffrun: 2000 rejected\n
-run 'pipe(ofarm 3 od (add 1 1), take 2, ofarm 2 rr (dup 2))' | 1\n2\n\[2000 3\nx\n] | 0 | 2\n2\n3\n3\n | ffrun: 2000 rejected\n
-run 'pipe(ofarm 64 rr (words 1), number, keep 1, total 1)' | \[1000 a b\n\nc\n] | 0 | 4501500\n |
-run 'pipe(a2a 3 (words 1) by 1 5 (tallyby 1), total 2)' | \[1000 a b\nc\n] | 0 | 3000\n |
-run 'pipe(a2a 2 (id) od 3 (add 1 1), a2a 3 (id) rr 1 (neg 1), total 1)' | \[2000 1\nx\n] | 0 | -4000\n | ffrun: 2000 rejected\n
+run 'pipe(farm 4 rr (mul 1 3), total 1)' | \[300 1\n2\nx\n] | 0 | 2700\n | ffrun: 300 rejected\n
+run 'pipe(farm 3 od (farm 2 rr (add 1 1)), tally)' | \[300 1\nx\n] | 0 | 300\n | ffrun: 300 rejected\n
+run 'pipe(ofarm 3 od (add 1 1), take 2, ofarm 2 rr (dup 2))' | 1\n2\n\[300 3\nx\n] | 0 | 2\n2\n3\n3\n | ffrun: 300 rejected\n
+run 'pipe(ofarm 64 rr (words 1), number, keep 1, total 1)' | \[200 a b\n\nc\n] | 0 | 180300\n |
+run 'pipe(a2a 3 (words 1) by 1 5 (tallyby 1), total 2)' | \[200 a b\nc\n] | 0 | 600\n |
+run 'pipe(a2a 2 (id) od 3 (add 1 1), a2a 3 (id) rr 1 (neg 1), total 1)' | \[300 1\nx\n] | 0 | -600\n | ffrun: 300 rejected\n
 "#;
 
 // Calls of three units, of which one isn't started. Nothing is stored.

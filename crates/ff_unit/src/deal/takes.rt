@@ -3,14 +3,13 @@ ghost use Rattle.std.specs.Prelude.{◌≡◌, ◌<◌, ◌≤◌, ◌∷◌, []
 ghost use Rattle.ff_rec.specs.Fields.{field_at};
 ghost use Rattle.ff_rec.specs.declared.msg.Msg.TheVariants.{Abort as AbortMsg};
 ghost use Rattle.ff_node.specs.Picks.{place_of};
-ghost use Rattle.ff_unit.specs.Closing.{spoiled};
 ghost use Rattle.ff_unit.specs.Deals.{deal_takes, deal_ends, deals, deals_one, deal_outs, behind, on_all};
 ghost use Rattle.ff_unit.specs.Deals.{next_place};
 
 use super::Deal;
 use super::behind::Last;
 use super::held::Held;
-use crate::{Dealing, key_place};
+use crate::{Dealing, key_place, spoil};
 use ff_port::End;
 use ff_rec::{Msg, Record};
 
@@ -25,7 +24,7 @@ impl Deal {
             Msg::Mark => {}
             Msg::Pick(_) => {}
             Msg::Eos => self.close(self.end),
-            Msg::Abort => self.close(spoiled(self.end)),
+            Msg::Abort => self.close(spoil(self.end)),
         }
     }
 
@@ -113,16 +112,6 @@ impl Deal {
             Dealing::GroupsOnDemand => self.places + 1,
             _ => self.places,
         }
-    }
-}
-
-// The end of a deal that took an Abort.
-fn spoiled(end: End) -> End
-    ensures { result ≡ spoiled end }
-{
-    match end {
-        End::Eos | End::Abort => End::Abort,
-        End::Memory => End::Memory,
     }
 }
 

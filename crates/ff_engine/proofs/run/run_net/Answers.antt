@@ -1,4 +1,6 @@
 -- The network was prepared, its threads were started, and the stream went through them.
+use denote.Param.Send.{sendable}
+use Rattle.std.proofs.Crossing.{crosses}
 use Rattle.std.proofs.Common.{◌≡◌, ◌+◌, length, refl, sym, ◌∙◌, subst}
 use Rattle.ff_net.specs.Counts.{units}
 use Rattle.ff_net.specs.Tree.{tree_of}
@@ -10,6 +12,7 @@ use Rattle.ff_stream.specs.Streams.{streams}
 use Rattle.ff_stream.proofs.Endings.{IsCutShort-none}
 use Rattle.ff_engine.specs.Seen.{caller_of}
 use Rattle.ff_engine.proofs.NetStarts.{HasFed-prepared, NetRan-denied, length-prepared}
+use Rattle.ff_engine.proofs.UnitSent.{IsSend-unit}
 use Rattle.ff_engine.proofs.run.run_net.Goals as goal
 
 pub returns-in_default-clause-run : goal.returns-in_default-clause-run
@@ -66,3 +69,6 @@ returns-in-Err-run_line-clause-run g c = λ limit.
 
 pub returns-in-Err-clause-run : goal.returns-in-Err-clause-run
 returns-in-Err-clause-run g c = rw c.into.ensures (λ limit. NetRan-denied _ _ c.in-Err.denial refl refl refl)
+
+pub start-requires-send-U : goal.start-requires-send-U
+start-requires-send-U g c κs within = let u = IsSend-unit _ c.type_bounds.send-N in search (sendable, crosses) depth 20

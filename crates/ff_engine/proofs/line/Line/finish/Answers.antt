@@ -1,9 +1,12 @@
 -- The stream came to its end, or it broke off.
+use denote.Param.Send.{sendable}
+use Rattle.std.proofs.Crossing.{crosses}
 use Rattle.std.proofs.Common.{ap, ◌∙◌, subst}
 use Rattle.ff_ring.specs.Ends.{got_of, put_of}
 use Rattle.ff_engine.specs.Callers.{EndsWithEos}
 use Rattle.ff_engine.specs.Seen.{caller_of}
 use Rattle.ff_engine.proofs.LineEnds.{Ends-concluded, IsOpen-put, WorkedThrough-all}
+use Rattle.ff_engine.proofs.UnitSent.{IsSend-unit}
 use Rattle.ff_engine.proofs.line.Line.finish.Goals as goal
 
 pub close-shown-requires : goal.close-shown-requires
@@ -31,3 +34,6 @@ returns-clause-work g c =
     (c.into_ends-first.ensures.put ∙ ap (λ s. s.put) c.hand_over.ensures)
     (c.into_ends-first.ensures.got ∙ ap (λ s. s.got) c.hand_over.ensures)
     shown.result c.end-end.result c.conclude.result c.conclude.ensures shown.ensures.put
+
+pub join-units-requires-send-U : goal.join-units-requires-send-U
+join-units-requires-send-U g c κs within = let u = IsSend-unit _ c.type_bounds.send-N in search (sendable, crosses) depth 20

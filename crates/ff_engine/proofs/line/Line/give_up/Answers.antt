@@ -1,7 +1,10 @@
 -- Abort was put behind the records.
+use denote.Param.Send.{sendable}
+use Rattle.std.proofs.Crossing.{crosses}
 use Rattle.ff_ring.specs.Ends.{got_of, put_of}
 use Rattle.ff_engine.specs.Seen.{caller_of}
 use Rattle.ff_engine.proofs.LineEnds.{IsOpen-put, IsOpen-stopped}
+use Rattle.ff_engine.proofs.UnitSent.{IsSend-unit}
 use Rattle.ff_engine.proofs.line.Line.give_up.Goals as goal
 
 pub stop-requires : goal.stop-requires
@@ -14,3 +17,6 @@ returns-clause-opens g c =
     IsOpen-stopped b j halt (caller_of c.args.self.caller) (caller_of c.stop.new.self) c.args.self.crew xs front at
     (put_of c.into_ends-first.result.0) c.join.result.items (got_of c.into_ends-first.result.1) _ _ c.join.ensures.joined
     c.into_ends-first.ensures.put c.into_ends-first.ensures.got c.stop.ensures.put c.stop.ensures.more
+
+pub join-requires-send-U : goal.join-requires-send-U
+join-requires-send-U g c κs within = let u = IsSend-unit _ c.type_bounds.send-N in search (sendable, crosses) depth 20

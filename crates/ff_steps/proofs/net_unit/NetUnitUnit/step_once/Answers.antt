@@ -1,7 +1,8 @@
 -- What is asked of a unit is asked of its part.
-use Rattle.std.proofs.Common.{sym, ap, ◌∙◌, subst}
+use Rattle.std.proofs.Common.{rules, sym, ap, ◌∙◌, subst}
 use Rattle.ff_steps.specs.NetUnits.{NetState, net_does}
 use Rattle.ff_steps.specs.PartViews.{state_of}
+use Rattle.ff_steps.proofs.net_unit.NetUnitUnit.step_once.Goals.{in-Stage, in-Deal, in-ODeal, in-Merge, in-OMerge}
 use Rattle.ff_steps.proofs.net_unit.NetUnitUnit.step_once.Goals as goal
 
 pub step_once-requires : goal.step_once-requires
@@ -14,6 +15,11 @@ step_once-requires-in-Deal g c =
     subst (λ (u : NetState g.row.N.Denot). (net_does g.N.Node.does).Ready u (g.P.Ports.gots c.args.ports.now) (g.P.Ports.puts c.args.ports.now))
     (sym c.self.view_is ∙ ap state_of c.in-Deal.is) c.requires
 
+pub step_once-requires-in-ODeal : goal.step_once-requires-in-ODeal
+step_once-requires-in-ODeal g c =
+    subst (λ (u : NetState g.row.N.Denot). (net_does g.N.Node.does).Ready u (g.P.Ports.gots c.args.ports.now) (g.P.Ports.puts c.args.ports.now))
+    (sym c.self.view_is ∙ ap state_of c.in-ODeal.is) c.requires
+
 pub step_once-requires-in-Merge : goal.step_once-requires-in-Merge
 step_once-requires-in-Merge g c =
     subst (λ (u : NetState g.row.N.Denot). (net_does g.N.Node.does).Ready u (g.P.Ports.gots c.args.ports.now) (g.P.Ports.puts c.args.ports.now))
@@ -23,3 +29,12 @@ pub step_once-requires-in-OMerge : goal.step_once-requires-in-OMerge
 step_once-requires-in-OMerge g c =
     subst (λ (u : NetState g.row.N.Denot). (net_does g.N.Node.does).Ready u (g.P.Ports.gots c.args.ports.now) (g.P.Ports.puts c.args.ports.now))
     (sym c.self.view_is ∙ ap state_of c.in-OMerge.is) c.requires
+
+pub returns-clause-one : goal.returns-clause-one
+returns-clause-one g c = elim c.match-self.branch [
+  | in-Stage w ↦ search rules
+  | in-Deal w ↦ search rules
+  | in-ODeal w ↦ search rules
+  | in-Merge w ↦ search rules
+  | in-OMerge w ↦ search rules
+]

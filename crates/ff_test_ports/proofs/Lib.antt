@@ -1,0 +1,2 @@
+pub mod FreshQueues
+pub mod Nothing
