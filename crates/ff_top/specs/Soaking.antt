@@ -43,9 +43,9 @@ soak_refused n Write = n
 soak_refused n NoMemory = n
 
 -- for each unit a thread was started, and the threads handled each record and an end for each unit
-pub record Threaded (n w starts starts_now worked worked_now : ℕ) : Type 0 where
-  pub starts : RoseBy (units (soak_net (workers_within w))) starts starts_now
-  pub worked : RoseBy (units (soak_net (workers_within w)) + records_within n) worked worked_now
+pub record Threaded (n w started started_now handled handled_now : ℕ) : Type 0 where
+  pub starts : RoseBy (units (soak_net (workers_within w))) started started_now
+  pub worked : RoseBy (units (soak_net (workers_within w)) + records_within n) handled handled_now
 
 -- the summary was written with this answer: all of it, or a prefix; no record is rejected
 pub record Soaks (n : ℕ) (before now : Option (List ℕ)) (faults faults_now refused refused_now : ℕ) (answer : Result ℕ SoakCause) : Type 0 where
