@@ -22,3 +22,4 @@ pub mod Steps
 pub mod WholeLines
 pub mod FirstLimits
 pub mod WholeTexts
+pub mod Written

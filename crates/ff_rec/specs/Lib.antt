@@ -1,5 +1,6 @@
 pub mod Weights
 pub mod Lines
+pub mod Written
 pub mod Number
 pub mod Fields
 pub mod Pieces

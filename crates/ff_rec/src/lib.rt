@@ -22,6 +22,7 @@ pub use field::Field;
 pub use laws::{
     a_text_within_its_limits_passes_none, contents_rise_and_are_what_occurs,
     printed_numbers_are_read, reading_is_cutting, same_is_each_record_as_often,
+    written_records_are_read,
 };
 pub use limits::{LONGEST_INPUT, LONGEST_LINE_ONE, LONGEST_LINE_TWO, LONGEST_TEXT, MOST_FIELDS};
 pub use line_reader::LineReader;

@@ -1,5 +1,5 @@
 -- What a call with an accepted command did, and with which network.
-use Rattle.std.proofs.Common.{◌≡◌, ℕ, ◌<◌, List, length, Option, None, Some, IsSomeAnd, sym, ap, subst, ◌∙◌, arith}
+use Rattle.std.proofs.Common.{◌≡◌, ℕ, ◌<◌, false, List, length, Option, None, Some, IsSomeAnd, refl, sym, ap, subst, ◌∙◌, arith}
 use Rattle.std.specs.Prelude.{Result, Err, option_and_then}
 use Rattle.ff_rec.specs.Counts.{more, Rose}
 use Rattle.ff_net.specs.Rules.{first_fault}
@@ -7,17 +7,19 @@ use Rattle.ff_net.specs.Tree.{Tree}
 use Rattle.ff_ops.specs.Operation.{OpState, op_node}
 use Rattle.ff_text.specs.SpellingLaw.{SpellingIsOfOneNet}
 use Rattle.ff_top.proofs.SameText.{IsText-known, IsSpelled-one, IsReadFault-spelled}
-use Rattle.ff_top.specs.Commands.{DoneWith, given_to}
-use Rattle.ff_top.specs.Endings.{Did, Comes, Counts, IsAccepted, IsRefused, description}
+use Rattle.ff_top.specs.Commands.{DoneWith, given_to, is_built}
+use Rattle.ff_plan.specs.declared.kind.Queue.{Queue}
+use Rattle.ff_top.specs.Endings.{Did, DidSoak, IsNotBuilt, Comes, Counts, IsAccepted, IsRefused, description}
 use Rattle.ff_top.specs.Outside.{Outside, IsQuiet}
 use Rattle.ff_top.specs.Texts.{version, IsText, IsKnown, IsSpelled, IsLong, IsBadText, IsBroken}
 use Rattle.ff_top.specs.declared.print.PrintFault.TheVariants as print
 use Rattle.ff_top.specs.declared.fault.Fault.{Fault}
-use Rattle.ff_top.specs.declared.fault.Fault.TheVariants.{Words, NotBuilt, Given, Run, Print}
+use Rattle.ff_top.specs.declared.fault.Fault.TheVariants.{Words, NotBuilt, Given, Run, Print, Soak}
 use Rattle.ff_top.specs.declared.given_fault.GivenFault.TheVariants as given
 use Rattle.ff_top.specs.declared.run_cause.RunCause.TheVariants as run
 use Rattle.ff_words.specs.Words.{command}
 use Rattle.ff_words.specs.declared.command.Command.{Command}
+use Rattle.ff_words.specs.declared.command.Command.TheVariants as of
 use Rattle.ff_words.specs.declared.command.CommandFault.TheVariants as unread
 use Rattle.ff_words.specs.declared.command.Given.{Given as GivenText}
 
@@ -29,6 +31,29 @@ pub None-description : (words : List (List ℕ)) (given : GivenText) → command
 None-description words given none is =
     let e : description words ≡ None = ap (λ (c : Option Command). option_and_then given_to c) none in
     let f : Some given ≡ None = sym is ∙ e in cc
+
+-- a command that isn't built is given no text
+unbuilt_given : (job : Command) → is_built job ≡ false → given_to job ≡ None
+unbuilt_given (of.Run given cap queue tasks one rejects) not_built = absurd (cc)
+unbuilt_given (of.Check given) not_built = absurd (cc)
+unbuilt_given (of.Plan given) not_built = absurd (cc)
+unbuilt_given job not_built = refl
+
+pub NotBuilt-description : (words : List (List ℕ)) (given : GivenText) → IsNotBuilt words → description words ≡ Some given → ⊥
+NotBuilt-description words given h is =
+    let e : description words ≡ None = ap (λ (c : Option Command). option_and_then given_to c) h.is_command ∙ unbuilt_given h.job h.not_built in
+    let f : Some given ≡ None = sym is ∙ e in cc
+
+-- nor is a soak
+pub Soak-description : (words : List (List ℕ)) (given : GivenText) (n workers cap : ℕ) (queue : Queue) → command words ≡ Some (of.Soak n workers cap queue)
+    → description words ≡ Some given → ⊥
+Soak-description words given n workers cap queue asked is =
+    let e : description words ≡ None = ap (λ (c : Option Command). option_and_then given_to c) asked in
+    let f : Some given ≡ None = sym is ∙ e in cc
+
+pub DidSoak-description : (words : List (List ℕ)) (before now : Outside) (answer : Result ℕ Fault) (given : GivenText) → DidSoak words before now answer
+    → description words ≡ Some given → ⊥
+DidSoak-description words before now answer given d is = Soak-description words given d.records d.workers d.cap d.queue d.is_command is
 
 -- what holds of the text that is given
 pub of_given : (words : List (List ℕ)) (given : GivenText) (P : GivenText → Type 0) → description words ≡ Some given → IsSomeAnd (description words) P → P given
@@ -99,7 +124,7 @@ module _ (one : SpellingIsOfOneNet) (words : List (List ℕ)) (before now : Outs
       → Counts before now (Err fault) → IsStop fault
   IsStop-accepted (Words unread.Usage) job t quiet a comes counts = None-description words a.given comes.0 a.is_description
   IsStop-accepted (Words unread.NoMemory) job t quiet a comes counts = tt
-  IsStop-accepted NotBuilt job t quiet a comes counts = let e : Some a.given ≡ None = sym a.is_description ∙ comes.0.not_built in cc
+  IsStop-accepted NotBuilt job t quiet a comes counts = NotBuilt-description words a.given comes.0 a.is_description
   IsStop-accepted (Given (given.File name)) job t quiet a comes counts = quiet.files (Rose-more before.files_faults now.files_faults counts.files)
   IsStop-accepted (Given given.TooLong) job t quiet a comes counts = IsLong-accepted a.given job t a a.is_description (of_given words a.given _ a.is_description comes.0)
   IsStop-accepted (Given (given.BadText at kind)) job t quiet a comes counts = IsBadText-accepted a.given job t at kind a a.is_description (of_given words a.given _ a.is_description comes.0)
@@ -114,3 +139,4 @@ module _ (one : SpellingIsOfOneNet) (words : List (List ℕ)) (before now : Outs
   IsStop-accepted (Run run.NoMemory) job t quiet a comes counts = tt
   IsStop-accepted (Print print.Write) job t quiet a comes counts = quiet.output (Rose-more before.output_faults now.output_faults counts.output)
   IsStop-accepted (Print print.NoMemory) job t quiet a comes counts = tt
+  IsStop-accepted (Soak cause) job t quiet a comes counts = DidSoak-description words before now (Err (Soak cause)) a.given comes a.is_description

@@ -1,6 +1,6 @@
 -- What is answered where no count of faults or refused starts rose, and which status comes with which answer.
 use Rattle.std.proofs.Common.{◌≡◌, ℕ, ◌≤◌, List, [], ◌∷◌, ◌++◌, Option, None, Some, IfSome, IsSome, IsSomeAnd, refl, sym, ap, subst, ◌∙◌, inl, inr, append-nil, arith}
-use Rattle.std.specs.Prelude.{◌⊎◌, Bool, true, is_some, option_and_then, Contains, Result, Ok, Err}
+use Rattle.std.specs.Prelude.{◌⊎◌, Bool, true, false, is_some, option_and_then, Contains, Result, Ok, Err}
 use Rattle.std.specs.Io.KnownBytes.{Consumes, IsAtEnd}
 use Rattle.ff_net.specs.Meaning.{Fine}
 use Rattle.ff_net.specs.Tree.{Tree}
@@ -12,22 +12,25 @@ use Rattle.ff_stream.specs.Endings.{IsOverrun, Stopped, stop_count}
 use Rattle.ff_stream.specs.declared.ending.Stop.{Stop}
 use Rattle.ff_stream.specs.declared.ending.Stop.TheVariants as stop
 use Rattle.ff_text.specs.SpellingLaw.{SpellingIsOfOneNet}
-use Rattle.ff_top.proofs.Accepted.{None-description, Did-accepted, Did-refused, IsStop, IsStop-accepted, Rose-more}
+use Rattle.ff_plan.specs.declared.kind.Queue.{Queue}
+use Rattle.ff_top.proofs.Accepted.{None-description, Soak-description, DidSoak-description, Did-accepted, Did-refused, IsStop, IsStop-accepted, Rose-more}
 use Rattle.ff_top.proofs.Limited.{limit_by-left}
-use Rattle.ff_top.specs.Commands.{DoneWith, given_to, IsInLimits, IsBeyond}
-use Rattle.ff_top.specs.Endings.{Did, Comes, Counts, IsAccepted, IsRefused, IsComplete, description}
-use Rattle.ff_top.specs.Messages.{fault_status, given_status, run_status, print_status, status_of}
+use Rattle.ff_top.specs.Commands.{DoneWith, given_to, is_built, IsInLimits, IsBeyond}
+use Rattle.ff_top.specs.Endings.{Did, DidSoak, IsNotBuilt, Comes, Counts, IsAccepted, IsRefused, IsComplete, description}
+use Rattle.ff_top.specs.Messages.{fault_status, given_status, run_status, print_status, soak_status, status_of}
 use Rattle.ff_top.specs.Outside.{Outside, IsQuiet, streams_of}
 use Rattle.ff_top.specs.Running.{run_job}
 use Rattle.ff_top.specs.Texts.{version}
 use Rattle.ff_top.specs.declared.print.PrintFault.{PrintFault}
 use Rattle.ff_top.specs.declared.print.PrintFault.TheVariants as print
 use Rattle.ff_top.specs.declared.fault.Fault.{Fault}
-use Rattle.ff_top.specs.declared.fault.Fault.TheVariants.{Words, NotBuilt, Given, Run, Print}
+use Rattle.ff_top.specs.declared.fault.Fault.TheVariants.{Words, NotBuilt, Given, Run, Print, Soak}
 use Rattle.ff_top.specs.declared.given_fault.GivenFault.{GivenFault}
 use Rattle.ff_top.specs.declared.given_fault.GivenFault.TheVariants as given
 use Rattle.ff_top.specs.declared.run_cause.RunCause.{RunCause}
 use Rattle.ff_top.specs.declared.run_cause.RunCause.TheVariants as run
+use Rattle.ff_top.specs.declared.soak.SoakCause.{SoakCause}
+use Rattle.ff_top.specs.declared.soak.SoakCause.TheVariants as soak
 use Rattle.ff_words.specs.Words.{command}
 use Rattle.ff_words.specs.declared.command.Command.{Command}
 use Rattle.ff_words.specs.declared.command.Command.TheVariants as of
@@ -47,6 +50,15 @@ limited law left now got bytes f reads e is = subst (λ (o : Option (List ℕ)).
 
 None-Some : {A : Type 0} (o : Option A) (x : A) → o ≡ None → o ≡ Some x → ⊥
 None-Some o x none some = let e : Some x ≡ None = sym some ∙ none in cc
+
+-- a soak is built, and is given no text
+built_soak : (job : Command) (n workers cap : ℕ) (queue : Queue) → is_built job ≡ false → Some job ≡ Some (of.Soak n workers cap queue) → ⊥
+built_soak job n workers cap queue not_built is =
+    let same : job ≡ of.Soak n workers cap queue = cc in
+    let e : true ≡ false = sym (ap is_built same) ∙ not_built in cc
+
+no_text : (o : Option GivenText) (P : GivenText → Type 0) → o ≡ None → IsSomeAnd o P → ⊥
+no_text o P none h = subst (λ (o : Option GivenText). IsSomeAnd o P) none h
 
 -- what is some is something
 some_of : (o : Option LineFault) → IsSome o → (f : LineFault) × (o ≡ Some f)
@@ -141,25 +153,45 @@ module _ (law : ReadingLaw) (one : SpellingIsOfOneNet) (words : List (List ℕ))
   refused-status status (Given fault) is quiet r comes counts = inl is
   refused-status status (Run cause) is quiet r comes counts = absurd (Did-refused one words before now (Err (Run cause)) r comes)
   refused-status status (Print fault) is quiet r comes counts = absurd (Did-refused one words before now (Err (Print fault)) r comes)
+  refused-status status (Soak cause) is quiet r comes counts = absurd (DidSoak-description words before now (Err (Soak cause)) r.given comes r.is_description)
+
+  -- a soak is told only what its own run ended with
+  soak-status : (status : ℕ) (fault : Fault) (n workers cap : ℕ) (queue : Queue) → status ≡ fault_status fault → IsQuiet before now
+      → command words ≡ Some (of.Soak n workers cap queue) → Comes words before now (Err fault) → Counts before now (Err fault) → (status ≡ 0) ⊎ (status ≡ 6)
+  soak-status status (Words unread.Usage) n workers cap queue is quiet asked comes counts = absurd (None-Some (command words) (of.Soak n workers cap queue) comes.0 asked)
+  soak-status status (Words unread.NoMemory) n workers cap queue is quiet asked comes counts = inr is
+  soak-status status NotBuilt n workers cap queue is quiet asked comes counts = absurd (built_soak comes.0.job n workers cap queue comes.0.not_built (sym comes.0.is_command ∙ asked))
+  soak-status status (Given fault) n workers cap queue is quiet asked comes counts =
+      absurd (no_text (description words) _ (ap (λ (c : Option Command). option_and_then given_to c) asked) comes.0)
+  soak-status status (Run cause) n workers cap queue is quiet asked comes counts = absurd (Soak-description words comes.given n workers cap queue asked comes.is_description)
+  soak-status status (Print fault) n workers cap queue is quiet asked comes counts = absurd (Soak-description words comes.given n workers cap queue asked comes.is_description)
+  soak-status status (Soak soak.Refused) n workers cap queue is quiet asked comes counts = absurd (quiet.starts (Rose-more before.refused now.refused counts.starts))
+  soak-status status (Soak soak.Write) n workers cap queue is quiet asked comes counts = absurd (quiet.output (Rose-more before.output_faults now.output_faults counts.output))
+  soak-status status (Soak soak.NoMemory) n workers cap queue is quiet asked comes counts = inr is
 
   pub complete : (status : ℕ) (answer : Result ℕ Fault) → status ≡ status_of answer → Comes words before now answer → Counts before now answer → IsComplete status words before now
   complete status (Ok n) is comes counts = record {
     done = λ quiet job t a within. inl is;
-    beyond = λ quiet job t a beyond. absurd (beyond-done job t n beyond (Did-accepted one words before now (Ok n) job t a comes));
-    refused = λ quiet r. absurd (Did-refused one words before now (Ok n) r comes);
+    beyond = λ quiet job t a beyond. elim comes [
+      | inl did ↦ absurd (beyond-done job t n beyond (Did-accepted one words before now (Ok n) job t a did))
+      | inr ran ↦ absurd (DidSoak-description words before now (Ok n) a.given ran a.is_description)
+    ];
+    refused = λ quiet r. elim comes [
+      | inl did ↦ absurd (Did-refused one words before now (Ok n) r did)
+      | inr ran ↦ absurd (DidSoak-description words before now (Ok n) r.given ran r.is_description)
+    ];
+    soaked = λ quiet m workers cap queue asked. inl is;
   }
   complete status (Err fault) is comes counts = record {
     done = λ quiet job t a within. done-status status fault job t is quiet a within (IsStop-accepted one words before now fault job t quiet a comes counts);
     beyond = λ quiet job t a beyond. beyond-status status fault is (IsStop-accepted one words before now fault job t quiet a comes counts);
     refused = λ quiet r. refused-status status fault is quiet r comes counts;
+    soaked = λ quiet m workers cap queue asked. soak-status status fault m workers cap queue is quiet asked comes counts;
   }
 
 -- words that are no command are no command with anything
 None-given : (words : List (List ℕ)) → command words ≡ None → (P : GivenText → Type 0) → IsSomeAnd (description words) P → ⊥
 None-given words none P h = subst (λ (o : Option GivenText). IsSomeAnd o P) (ap (λ (c : Option Command). option_and_then given_to c) none) h
-
-some_command : (words : List (List ℕ)) → command words ≡ None → IsSome (command words) → ⊥
-some_command words none some = let e : is_some {T = Command} None ≡ true = ap is_some (sym none) ∙ some in cc
 
 -- the least status of each part behind the words
 given_low : (fault : GivenFault) → 2 ≤ given_status fault
@@ -175,6 +207,11 @@ print_low : (fault : PrintFault) → 2 ≤ print_status fault
 print_low print.Write = omega arith
 print_low print.NoMemory = omega arith
 
+soak_low : (cause : SoakCause) → 2 ≤ soak_status cause
+soak_low soak.Refused = omega arith
+soak_low soak.Write = omega arith
+soak_low soak.NoMemory = omega arith
+
 -- which status comes with which answer
 module _ (words : List (List ℕ)) (before now : Outside) where
   fault_usage : (fault : Fault) → Comes words before now (Err fault) → fault_status fault ≡ 1 → command words ≡ None
@@ -184,6 +221,7 @@ module _ (words : List (List ℕ)) (before now : Outside) where
   fault_usage (Given fault) comes is = absurd (omega (arith, given_low fault))
   fault_usage (Run cause) comes is = absurd (omega (arith, run_low cause))
   fault_usage (Print fault) comes is = absurd (omega (arith, print_low fault))
+  fault_usage (Soak cause) comes is = absurd (omega (arith, soak_low cause))
 
   pub usage : (status : ℕ) (answer : Result ℕ Fault) → status ≡ status_of answer → Comes words before now answer → status ≡ 1 → command words ≡ None
   usage status (Ok n) is comes one = absurd (omega arith)
@@ -196,21 +234,27 @@ module _ (words : List (List ℕ)) (before now : Outside) where
   fault_not_0 (Given fault) is = omega (arith, given_low fault)
   fault_not_0 (Run cause) is = omega (arith, run_low cause)
   fault_not_0 (Print fault) is = omega (arith, print_low fault)
+  fault_not_0 (Soak cause) is = omega (arith, soak_low cause)
 
-  pub done : (status : ℕ) (answer : Result ℕ Fault) → status ≡ status_of answer → Comes words before now answer → status ≡ 0 → (rejected : ℕ) × Did words before now (Ok rejected)
+  pub done : (status : ℕ) (answer : Result ℕ Fault) → status ≡ status_of answer → Comes words before now answer → status ≡ 0
+      → (rejected : ℕ) × (Did words before now (Ok rejected) ⊎ DidSoak words before now (Ok rejected))
   done status (Ok n) is comes zero = (n, comes)
   done status (Err fault) is comes zero = absurd (fault_not_0 fault (sym is ∙ zero))
 
   fault_no_command : (status : ℕ) (fault : Fault) → status ≡ fault_status fault → Comes words before now (Err fault) → command words ≡ None → (status ≡ 1) ⊎ (status ≡ 6)
   fault_no_command status (Words unread.Usage) is comes none = inl is
   fault_no_command status (Words unread.NoMemory) is comes none = inr is
-  fault_no_command status NotBuilt is comes none = absurd (some_command words none comes.0.is_command)
+  fault_no_command status NotBuilt is comes none = absurd (None-Some (command words) comes.0.job none comes.0.is_command)
   fault_no_command status (Given fault) is comes none = absurd (None-given words none _ comes.0)
   fault_no_command status (Run cause) is comes none = absurd (None-Some (command words) comes.job none comes.is_command)
   fault_no_command status (Print fault) is comes none = absurd (None-Some (command words) comes.job none comes.is_command)
+  fault_no_command status (Soak cause) is comes none = absurd (None-Some (command words) _ none comes.is_command)
 
   pub no_command : (status : ℕ) (answer : Result ℕ Fault) → status ≡ status_of answer → Comes words before now answer → command words ≡ None → (status ≡ 1) ⊎ (status ≡ 6)
-  no_command status (Ok n) is comes none = absurd (None-Some (command words) comes.job none comes.is_command)
+  no_command status (Ok n) is comes none = elim comes [
+    | inl did ↦ absurd (None-Some (command words) did.job none did.is_command)
+    | inr ran ↦ absurd (None-Some (command words) _ none ran.is_command)
+  ]
   no_command status (Err fault) is comes none = fault_no_command status fault is comes none
 
 -- each status is one of the seven
@@ -229,3 +273,6 @@ Contains-status status (Err (Run run.NoMemory)) is = (6, omega arith, sym is)
 Contains-status status (Err (Run cause)) is = (4, omega arith, sym is)
 Contains-status status (Err (Print print.Write)) is = (4, omega arith, sym is)
 Contains-status status (Err (Print print.NoMemory)) is = (6, omega arith, sym is)
+Contains-status status (Err (Soak soak.Refused)) is = (5, omega arith, sym is)
+Contains-status status (Err (Soak soak.Write)) is = (4, omega arith, sym is)
+Contains-status status (Err (Soak soak.NoMemory)) is = (6, omega arith, sym is)

@@ -10,7 +10,7 @@ use Rattle.ff_rec.specs.Lines.{Rec}
 use Rattle.ff_stream.specs.Jobs.{Job}
 use Rattle.ff_stream.specs.declared.ending.Stop.{Stop}
 use Rattle.ff_top.specs.Commands.{DoneWith, given_to}
-use Rattle.ff_top.specs.Endings.{Did, Comes, Counts, description}
+use Rattle.ff_top.specs.Endings.{Did, DidSoak, Comes, Counts, description}
 use Rattle.ff_top.specs.Outside.{Outside, IsUntouched}
 use Rattle.ff_top.specs.Running.{KeepsBut, Stored, HasStored, Ran, RunCounts, run_files}
 use Rattle.ff_top.specs.Working.{Handled, Worked}
@@ -97,15 +97,18 @@ IsLate-done job t before now f h = absurd h
 of_words : (words : List (List ℕ)) (given : Given) (P : Given → Type 0) → description words ≡ Some given → P given → IsSomeAnd (description words) P
 of_words words given P is h = subst (λ (o : Option Given). IsSomeAnd o P) (sym is) h
 
-some_is : {A : Type 0} (o : Option A) (x : A) → o ≡ Some x → IsSome o
-some_is o x is = subst (λ o. IsSome o) (sym is) refl
-
 module _ (words : List (List ℕ)) (before now : Outside) where
   Comes-did : (answer : Result ℕ Fault) → Did words before now answer → Comes words before now answer
-  Comes-did (Ok n) d = d
+  Comes-did (Ok n) d = inl d
   Comes-did (Err (fault.Run cause)) d = d
   Comes-did (Err (fault.Print cause)) d = d
   Comes-did (Err f) d = absurd (IsLate-done d.job d.net before now f d.done)
+
+  -- a soak was run
+  Comes-soak : (answer : Result ℕ Fault) → DidSoak words before now answer → Comes words before now answer
+  Comes-soak (Ok n) d = inr d
+  Comes-soak (Err (fault.Soak cause)) d = d
+  Comes-soak (Err f) d = absurd d.done
 
   Comes-handled : (job : Command) (given : Given) (answer : Result ℕ Fault) → command words ≡ Some job → description words ≡ Some given
       → Handled given (DoneWith job) before now answer → Comes words before now answer
@@ -128,6 +131,16 @@ module _ (words : List (List ℕ)) (before now : Outside) where
       let given_is : description words ≡ given_to job = ap (λ (c : Option Command). option_and_then given_to c) is in
       elim worked [
         | inl unbuilt ↦ subst (λ (a : Result ℕ Fault). Comes words before now a) (sym unbuilt.is)
-            (record { is_command = some_is (command words) job is; not_built = given_is ∙ unbuilt.none }, unbuilt.untouched)
-        | inr built ↦ Comes-handled job built.given answer is (given_is ∙ built.is) built.handled
+            (record { job = job; is_command = is; not_built = unbuilt.not_built }, unbuilt.untouched)
+        | inr done ↦ elim done [
+          | inl built ↦ Comes-handled job built.given answer is (given_is ∙ built.is) built.handled
+          | inr soak ↦ Comes-soak answer (record {
+            records = soak.records;
+            workers = soak.workers;
+            cap = soak.cap;
+            queue = soak.queue;
+            is_command = is ∙ ap (λ (c : Command). Some c) soak.is;
+            done = soak.done;
+          })
+        ]
       ]

@@ -1,5 +1,5 @@
--- What each command does with the text that it is given. Commands without a row of their own aren't built, and do nothing.
-use Rattle.std.specs.Prelude.{◌≡◌, ℕ, ◌⊎◌, Bool, true, List, Option, None, Some, IsSome, IsSomeAnd, Result, Ok, Err}
+-- What each command does. Those that aren't built do nothing.
+use Rattle.std.specs.Prelude.{◌≡◌, ℕ, ◌⊎◌, Bool, true, false, List, Option, None, Some, IsSome, IsSomeAnd, Result, Ok, Err}
 use Rattle.ff_net.specs.Meaning.{Fine}
 use Rattle.ff_net.specs.Tree.{Tree}
 use Rattle.ff_net.specs.Versions.{limit_by, seen_by}
@@ -7,16 +7,25 @@ use Rattle.ff_ops.specs.Operation.{OpState, op_node}
 use Rattle.ff_top.specs.Outside.{Outside}
 use Rattle.ff_top.specs.Printing.{Printed}
 use Rattle.ff_top.specs.Running.{Ran, by_threads, run_job}
+use Rattle.ff_top.specs.Soaking.{Soaked}
 use Rattle.ff_top.specs.Texts.{version}
 use Rattle.ff_top.specs.declared.fault.Fault.{Fault}
 use Rattle.ff_top.specs.declared.fault.Fault.TheVariants as fault
 use Rattle.ff_top.specs.declared.print.Form.{Form}
 use Rattle.ff_top.specs.declared.print.Form.TheVariants as form
 use Rattle.ff_words.specs.declared.command.Command.{Command}
-use Rattle.ff_words.specs.declared.command.Command.TheVariants.{Run, Check, Plan}
+use Rattle.ff_words.specs.declared.command.Command.TheVariants.{Run, Check, Plan, Soak}
 use Rattle.ff_words.specs.declared.command.Given.{Given}
 
--- the text or file of a command that is built
+-- whether a command is built
+abbrev pub is_built : Command → Bool
+is_built (Run given cap queue tasks one rejects) = true
+is_built (Check given) = true
+is_built (Plan given) = true
+is_built (Soak n workers cap queue) = true
+is_built _ = false
+
+-- the text or file of a command that is built, where it is given one
 abbrev pub given_to : Command → Option Given
 given_to (Run given cap queue tasks one rejects) = Some given
 given_to (Check given) = Some given
@@ -37,6 +46,12 @@ abbrev pub PrintDone : Form → Tree OpState → Outside → Outside → Result 
 PrintDone form t before now (Ok n) = Printed form t before now (Ok n)
 PrintDone form t before now (Err (fault.Print cause)) = Printed form t before now (Err cause)
 PrintDone form t before now (Err _) = ⊥
+
+-- `soak` answers as the run over its own records ends
+abbrev pub SoakDone : ℕ → ℕ → Outside → Outside → Result ℕ Fault → Type 0
+SoakDone n workers before now (Ok k) = Soaked n workers before now (Ok k)
+SoakDone n workers before now (Err (fault.Soak cause)) = Soaked n workers before now (Err cause)
+SoakDone n workers before now (Err _) = ⊥
 
 -- what a command does with the network that it is given
 abbrev pub DoneWith : Command → Tree OpState → Outside → Outside → Result ℕ Fault → Type 0

@@ -2,6 +2,7 @@ pub mod Outside
 pub mod Texts
 pub mod Running
 pub mod Printing
+pub mod Soaking
 pub mod Commands
 pub mod Messages
 pub mod Endings

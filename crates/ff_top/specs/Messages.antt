@@ -11,13 +11,15 @@ use Rattle.ff_rec.specs.declared.fault.LineFault.TheVariants.{TooLong, TooManyFi
 use Rattle.ff_text.specs.declared.fault.TextKind.{TextKind}
 use Rattle.ff_text.specs.declared.fault.TextKind.TheVariants.{BadByte, BadToken, UnknownName, Range, Deep, End, Large, TakenName}
 use Rattle.ff_top.specs.declared.fault.Fault.{Fault}
-use Rattle.ff_top.specs.declared.fault.Fault.TheVariants.{Words, NotBuilt, Given, Run, Print}
+use Rattle.ff_top.specs.declared.fault.Fault.TheVariants.{Words, NotBuilt, Given, Run, Print, Soak}
 use Rattle.ff_top.specs.declared.given_fault.GivenFault.{GivenFault}
 use Rattle.ff_top.specs.declared.given_fault.GivenFault.TheVariants as given
 use Rattle.ff_top.specs.declared.run_cause.RunCause.{RunCause}
 use Rattle.ff_top.specs.declared.run_cause.RunCause.TheVariants as run
 use Rattle.ff_top.specs.declared.print.PrintFault.{PrintFault}
 use Rattle.ff_top.specs.declared.print.PrintFault.TheVariants as print
+use Rattle.ff_top.specs.declared.soak.SoakCause.{SoakCause}
+use Rattle.ff_top.specs.declared.soak.SoakCause.TheVariants as soak
 use Rattle.ff_words.specs.declared.command.CommandFault.{CommandFault}
 use Rattle.ff_words.specs.declared.command.CommandFault.TheVariants as words
 
@@ -56,12 +58,15 @@ abbrev pub rule_message : ℕ → List ℕ → List ℕ
 rule_message rule place =
     codes "ffrun: rule N" ++ decimal rule ++ codes " at " ++ place_text place ++ codes "\n"
 
--- what every command says that runs out of memory, and whose output takes no more
+-- what commands say that run out of memory, whose output takes no more, and of which a thread was refused
 abbrev pub memory_message : List ℕ
 memory_message = codes "ffrun: out of memory\n"
 
 abbrev pub write_message : List ℕ
 write_message = codes "ffrun: write fault\n"
+
+abbrev pub refused_message : List ℕ
+refused_message = codes "ffrun: a thread was refused\n"
 
 -- the message of each fault, with the newline at its end: of words
 abbrev pub words_message : CommandFault → List ℕ
@@ -78,7 +83,7 @@ given_message given.NoMemory = memory_message
 
 -- of `run`
 abbrev pub run_message : RunCause → List ℕ
-run_message run.Refused = codes "ffrun: a thread was refused\n"
+run_message run.Refused = refused_message
 run_message (run.Tasks m) = codes "ffrun: more than " ++ decimal m ++ codes " tasks\n"
 run_message run.Write = write_message
 run_message (run.Rejects name rejected) = codes "ffrun: cannot write " ++ name ++ codes "\n"
@@ -91,6 +96,12 @@ abbrev pub print_message : PrintFault → List ℕ
 print_message print.Write = write_message
 print_message print.NoMemory = memory_message
 
+-- of `soak`
+abbrev pub soak_message : SoakCause → List ℕ
+soak_message soak.Refused = refused_message
+soak_message soak.Write = write_message
+soak_message soak.NoMemory = memory_message
+
 -- of any part
 abbrev pub message : Fault → List ℕ
 message (Words fault) = words_message fault
@@ -98,6 +109,7 @@ message NotBuilt = codes "ffrun: not built\n"
 message (Given fault) = given_message fault
 message (Run fault) = run_message fault
 message (Print fault) = print_message fault
+message (Soak cause) = soak_message cause
 
 -- the line that tells how many records were rejected, if any was
 abbrev pub rejected_line : ℕ → List ℕ
@@ -119,7 +131,7 @@ abbrev pub said : Result ℕ Fault → List ℕ
 said (Ok rejected) = rejected_line rejected
 said (Err fault) = message fault ++ rejected_line (rejected_by fault)
 
--- the status of each fault: of words, of the text that is given, of `run`, of a print, and of any part
+-- the status of each fault: of words, of the text that is given, of `run`, of a print, of `soak`, and of any part
 abbrev pub words_status : CommandFault → ℕ
 words_status words.Usage = 1
 words_status words.NoMemory = 6
@@ -142,12 +154,18 @@ abbrev pub print_status : PrintFault → ℕ
 print_status print.Write = 4
 print_status print.NoMemory = 6
 
+abbrev pub soak_status : SoakCause → ℕ
+soak_status soak.Refused = 5
+soak_status soak.Write = 4
+soak_status soak.NoMemory = 6
+
 abbrev pub fault_status : Fault → ℕ
 fault_status (Words fault) = words_status fault
 fault_status NotBuilt = 2
 fault_status (Given fault) = given_status fault
 fault_status (Run fault) = run_status fault
 fault_status (Print fault) = print_status fault
+fault_status (Soak cause) = soak_status cause
 
 -- the status of a call
 abbrev pub status_of : Result ℕ Fault → ℕ

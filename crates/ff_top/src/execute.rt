@@ -1,6 +1,6 @@
 // From words to what they do.
 ghost use Rattle.std.specs.Prelude.{◌≡◌};
-ghost use Rattle.ff_top.specs.Commands.{PrintDone, RunDone};
+ghost use Rattle.ff_top.specs.Commands.{PrintDone, RunDone, SoakDone};
 ghost use Rattle.ff_top.specs.Endings.{Comes, Counts};
 ghost use Rattle.ff_top.specs.Working.{Handled, Worked};
 ghost use Rattle.ff_words.specs.Parsed.{texts};
@@ -10,6 +10,7 @@ use crate::fault::Fault;
 use crate::given::read_given;
 use crate::print::{Form, print};
 use crate::run::{Order, run};
+use crate::soak::write_soak;
 use ff_engine::{NetJob, NetUnit};
 use ff_io::{Files, Sink, Source};
 use ff_ops::Op;
@@ -78,6 +79,12 @@ fn work<
         }
         Command::Check { given } => print_given(alloc, given, Form::Network, devices),
         Command::Plan { given } => print_given(alloc, given, Form::Plan, devices),
+        Command::Soak {
+            n,
+            workers,
+            cap,
+            ..
+        } => run_soak(rt, alloc, n, workers, cap, devices),
         _ => Err(Fault::NotBuilt),
     }
 }
@@ -132,5 +139,34 @@ fn print_given<F: Files, I: Source, O: Sink, E: Sink, S: Refusals>(
             Err(fault) => Err(Fault::Print(fault)),
         },
         Err(fault) => Err(Fault::Given(fault)),
+    }
+}
+
+// Runs a soak. Nothing is read.
+fn run_soak<
+    F: Files,
+    I: Source,
+    O: Sink,
+    E: Sink,
+    R: Wait + Clone + Drop + Send + 'static,
+    S: Spawner<NetJob<NetUnit<Op>, R>>,
+>(
+    rt: &R,
+    alloc: Global,
+    n: u64,
+    workers: u32,
+    cap: u32,
+    devices: &mut Devices<F, I, O, E, S>,
+) -> Result<u64, Fault>
+    ensures done { let seen = ⟦<Devices<F, I, O, E, S> as Seen>⟧.outside in
+        SoakDone n workers (seen devices.old) (seen devices.new) result }
+    ensures counts { let seen = ⟦<Devices<F, I, O, E, S> as Seen>⟧.outside in
+        Counts (seen devices.old) (seen devices.new) result }
+    ensures err { devices.new.err ≡ devices.old.err }
+{
+    let Devices { out, spawner, .. } = devices;
+    match write_soak(rt, alloc, n, workers, cap, out, spawner) {
+        Ok(rejected) => Ok(rejected),
+        Err(cause) => Err(Fault::Soak(cause)),
     }
 }

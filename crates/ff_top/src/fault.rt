@@ -6,6 +6,7 @@ use crate::given_fault::GivenFault;
 use crate::pieces::{write_memory, write_piece};
 use crate::print::PrintFault;
 use crate::run_cause::RunCause;
+use crate::soak::SoakCause;
 use ff_io::{Failed, Sink};
 use ff_words::CommandFault;
 
@@ -22,6 +23,8 @@ pub enum Fault {
     Run(RunCause),
     /// A command that prints a network.
     Print(PrintFault),
+    /// The command `soak`.
+    Soak(SoakCause),
 }
 
 impl Fault {
@@ -35,6 +38,7 @@ impl Fault {
             Fault::Given(fault) => fault.status(),
             Fault::Run(cause) => cause.status(),
             Fault::Print(fault) => fault.status(),
+            Fault::Soak(cause) => cause.status(),
         }
     }
 
@@ -59,6 +63,7 @@ impl Fault {
             Fault::Given(fault) => fault.write(sink),
             Fault::Run(cause) => cause.write(sink),
             Fault::Print(fault) => fault.write(sink),
+            Fault::Soak(cause) => cause.write(sink),
         }
     }
 }

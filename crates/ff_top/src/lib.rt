@@ -14,6 +14,7 @@ mod print;
 mod rejects;
 mod run;
 mod run_cause;
+mod soak;
 mod tell;
 mod top;
 

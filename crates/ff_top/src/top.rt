@@ -1,6 +1,6 @@
 // The call that `main` makes.
 ghost use Rattle.std.specs.Prelude.{◌≡◌, ◌⊎◌, ℕ, [], ◌∷◌, None, Ok, Err, Contains};
-ghost use Rattle.ff_top.specs.Endings.{Did, Ended, IsComplete};
+ghost use Rattle.ff_top.specs.Endings.{Did, DidSoak, Ended, IsComplete};
 ghost use Rattle.ff_top.specs.Messages.{memory_message, status_of, Tells};
 ghost use Rattle.ff_words.specs.Parsed.{texts};
 ghost use Rattle.ff_words.specs.Words.{command};
@@ -39,17 +39,18 @@ pub fn ffrun<
 
     // 0: the text that is given spells a network that keeps all rules, and the command was done with it: for `run` over all
     // records of the input, of which the output took the text of an answer, and nothing besides. Where it ran by threads, one
-    // was started for each unit, and they handled each record.
+    // was started for each unit, and they handled each record. Or the words ask for a soak, and its summary was written.
     ensures done { let seen = ⟦<Devices<F, I, O, E, S> as Seen>⟧.outside in
         result ≡ 0 → (rejected : ℕ)
-        × Did (texts words.now) (seen devices.old) (seen devices.new) (Ok rejected) }
+        × (Did (texts words.now) (seen devices.old) (seen devices.new) (Ok rejected)
+        ⊎ DidSoak (texts words.now) (seen devices.old) (seen devices.new) (Ok rejected)) }
 
     // 1 exactly where the words aren't a command, unless memory ran out.
     ensures usage { result ≡ 1 → command (texts words.now) ≡ None }
     ensures no_command { command (texts words.now) ≡ None → (result ≡ 1) ⊎ (result ≡ 6) }
 
     // Where no count of faults or refused starts rose, and unless memory ran out: an accepted command over an input within the limits is
-    // done, over another input a limit is told, and a text that isn't accepted is refused.
+    // done, over another input a limit is told, a text that isn't accepted is refused, and a soak is done.
     ensures complete { let seen = ⟦<Devices<F, I, O, E, S> as Seen>⟧.outside in
         IsComplete result (texts words.now) (seen devices.old) (seen devices.new) }
 {

@@ -22,10 +22,14 @@ plan 'wrap 2 (halve 1) if 1 > 1' | 1\n | 0 | 0 master 0 4 5 > 2 3 1\n1 worker 2 
 plan 'ofarm 2 od (id)' | 1\n | 0 | 0 odeal-od 0 > 2 3 6\n1 stage 2 > 4 : id\n2 stage 3 > 5 : id\n3 omerge-pick 4 5 6 > 1\n |
 plan 'a2a 1 (id) by 1 2 (tallyby 1)' | 1\n | 0 | 0 deal-rr 0 > 2\n1 stage 2 > 3 : id\n2 deal-by-1 3 > 4 5\n3 merge 4 > 6\n4 merge 5 > 7\n5 stage 6 > 8 : tallyby 1\n6 stage 7 > 9 : tallyby 1\n7 merge 8 9 > 1\n |
 plan 'id id' | 1\n | 2 |  | ffrun: byte 3: unexpected token\n
+// soaks, which read nothing
+soak 0 | 1\n | 0 | records 0\nkeys 0\ntotal 0\n |
+soak 3 | 1\n | 0 | records 3\nkeys 3\ntotal 5106\n |
+soak --workers 1 --cap 1 5 | 1\n | 0 | records 5\nkeys 5\ntotal 6765\n |
+soak --workers 17 5 | 1\n | 1 |  | ffrun: usage: run, check, plan, mdf, dc or soak\n
 // commands that are not built
 mdf 'a = copy 1; out a' | 1\n | 2 |  | ffrun: not built\n
 dc fib 10 | 1\n | 2 |  | ffrun: not built\n
-soak 3 | 1\n | 2 |  | ffrun: not built\n
 // It isn't read, though the file isn't there.
 mdf -f other.txt | 1\n | 2 |  | ffrun: not built\n
 "#;

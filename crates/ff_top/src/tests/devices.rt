@@ -34,7 +34,7 @@ run --tasks 1 'wrap 2 (halve 1) if 1 > 1' | x\n2\n1 | 3 |  | ffrun: more than 1 
 const FIVE_BYTES_TOLD: &str = r#"
 run 'add 1 1' | 1\nx | 0 | 2\n | ffrun
 walk id |  | 1 |  | ffrun
-soak 3 |  | 2 |  | ffrun
+dc fib 10 |  | 2 |  | ffrun
 check 'id id' |  | 2 |  | ffrun
 run 'farm 0 rr (id)' |  | 2 |  | ffrun
 "#;

@@ -1,5 +1,5 @@
 -- The command is given a network.
-use Rattle.std.proofs.Common.{sym, ap, subst, inr}
+use Rattle.std.proofs.Common.{sym, ap, subst, inl, inr}
 use Rattle.ff_top.specs.Commands.{DoneWith, given_to}
 use Rattle.ff_top.specs.Outside.{outside_of}
 use Rattle.ff_top.specs.Working.{Handled}
@@ -11,30 +11,40 @@ returns-in-Run-clause-worked g c =
     let seen = outside_of g.F.Files.told g.F.Files.faults g.I.Source.left g.I.Source.ended g.I.Source.faults g.O.Sink.taken g.O.Sink.faults g.S.Refusals.refused g.S.Refusals.starts g.S.Refusals.worked in
     let before = seen c.args.devices.now.files c.args.devices.now.input c.args.devices.now.out c.args.devices.now.spawner in
     let now = seen c.run_given.new.devices.files c.run_given.new.devices.input c.run_given.new.devices.out c.run_given.new.devices.spawner in
-    inr (record {
+    inr (inl (record {
       given = c.in-Run.given;
       is = ap given_to c.in-Run.is;
       handled = subst (λ (job : Command). Handled c.in-Run.given (DoneWith job) before now c.run_given.result) (sym c.in-Run.is) c.run_given.ensures.handled;
-    })
+    }))
 
 pub returns-in-Check-clause-worked : goal.returns-in-Check-clause-worked
 returns-in-Check-clause-worked g c =
     let seen = outside_of g.F.Files.told g.F.Files.faults g.I.Source.left g.I.Source.ended g.I.Source.faults g.O.Sink.taken g.O.Sink.faults g.S.Refusals.refused g.S.Refusals.starts g.S.Refusals.worked in
     let before = seen c.args.devices.now.files c.args.devices.now.input c.args.devices.now.out c.args.devices.now.spawner in
     let now = seen c.print_given.new.devices.files c.print_given.new.devices.input c.print_given.new.devices.out c.print_given.new.devices.spawner in
-    inr (record {
+    inr (inl (record {
       given = c.in-Check.given;
       is = ap given_to c.in-Check.is;
       handled = subst (λ (job : Command). Handled c.in-Check.given (DoneWith job) before now c.print_given.result) (sym c.in-Check.is) c.print_given.ensures.handled;
-    })
+    }))
 
 pub returns-in-Plan-clause-worked : goal.returns-in-Plan-clause-worked
 returns-in-Plan-clause-worked g c =
     let seen = outside_of g.F.Files.told g.F.Files.faults g.I.Source.left g.I.Source.ended g.I.Source.faults g.O.Sink.taken g.O.Sink.faults g.S.Refusals.refused g.S.Refusals.starts g.S.Refusals.worked in
     let before = seen c.args.devices.now.files c.args.devices.now.input c.args.devices.now.out c.args.devices.now.spawner in
     let now = seen c.print_given-in-Plan.new.devices.files c.print_given-in-Plan.new.devices.input c.print_given-in-Plan.new.devices.out c.print_given-in-Plan.new.devices.spawner in
-    inr (record {
+    inr (inl (record {
       given = c.in-Plan.given;
       is = ap given_to c.in-Plan.is;
       handled = subst (λ (job : Command). Handled c.in-Plan.given (DoneWith job) before now c.print_given-in-Plan.result) (sym c.in-Plan.is) c.print_given-in-Plan.ensures.handled;
-    })
+    }))
+
+pub returns-in-Soak-clause-worked : goal.returns-in-Soak-clause-worked
+returns-in-Soak-clause-worked g c = inr (inr (record {
+  records = c.in-Soak.n;
+  workers = c.in-Soak.workers;
+  cap = c.in-Soak.cap;
+  queue = c.in-Soak.queue;
+  is = c.in-Soak.is;
+  done = c.run_soak.ensures.done;
+}))

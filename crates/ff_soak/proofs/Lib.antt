@@ -1,0 +1,9 @@
+pub mod Plain
+pub mod Texts
+pub mod Limits
+pub mod Chunks
+pub mod Pairs
+pub mod Tallies
+pub mod Nets
+pub mod Causes
+pub mod Runs

@@ -1,0 +1,62 @@
+-- What the command `soak` does, at each of its answers.
+use Rattle.std.specs.Prelude.{◌≡◌, ℕ, ◌+◌, min, max, List, Option, Result, Ok, Err, IfOk, OnOk}
+use Rattle.std.specs.Io.KnownBytes.{Appends}
+use Rattle.ff_rec.specs.Counts.{more}
+use Rattle.ff_io.specs.Bytes.{AppendsPrefix}
+use Rattle.ff_net.specs.Counts.{units}
+use Rattle.ff_soak.specs.Networks.{soak_answer, soak_net}
+use Rattle.ff_soak.specs.Printing.{summary_text}
+use Rattle.ff_soak.specs.Summaries.{summary_of}
+use Rattle.ff_soak.specs.declared.fault.SoakFault.{SoakFault}
+use Rattle.ff_soak.specs.declared.fault.SoakFault.TheVariants as fault
+use Rattle.ff_spawn.specs.Counts.{RoseBy}
+use Rattle.ff_top.specs.Outside.{Outside, count_by}
+use Rattle.ff_top.specs.Printing.{ReadsNothing}
+use Rattle.ff_top.specs.declared.soak.SoakCause.{SoakCause}
+use Rattle.ff_top.specs.declared.soak.SoakCause.TheVariants.{Refused, Write, NoMemory}
+
+-- so many records and workers as the words may ask for
+abbrev pub records_within : ℕ → ℕ
+records_within n = min n 10000000
+
+abbrev pub workers_within : ℕ → ℕ
+workers_within w = max (min w 16) 1
+
+-- what is written of a soak: the summary, which doesn't depend on the number of workers
+abbrev pub soaked : ℕ → List ℕ
+soaked n = summary_text (summary_of (records_within n) (soak_answer 0 1 (records_within n)))
+
+-- the cause that a fault is
+abbrev pub told : SoakFault → SoakCause
+told fault.Refused = Refused
+told fault.NoMemory = NoMemory
+
+-- how often the output had failed, and starts were refused, after a soak that ended so
+abbrev pub soak_output : ℕ → SoakCause → ℕ
+soak_output n Refused = n
+soak_output n Write = more n
+soak_output n NoMemory = n
+
+abbrev pub soak_refused : ℕ → SoakCause → ℕ
+soak_refused n Refused = more n
+soak_refused n Write = n
+soak_refused n NoMemory = n
+
+-- for each unit a thread was started, and the threads handled each record and an end for each unit
+pub record Threaded (n w started started_now handled handled_now : ℕ) : Type 0 where
+  pub starts : RoseBy (units (soak_net (workers_within w))) started started_now
+  pub worked : RoseBy (units (soak_net (workers_within w)) + records_within n) handled handled_now
+
+-- the summary was written with this answer: all of it, or a prefix; no record is rejected
+pub record Soaks (n : ℕ) (before now : Option (List ℕ)) (faults faults_now refused refused_now : ℕ) (answer : Result ℕ SoakCause) : Type 0 where
+  pub none : IfOk answer (λ k. k ≡ 0)
+  pub all : OnOk answer (Appends before now (soaked n))
+  pub prefix : AppendsPrefix before now (soaked n)
+  pub counts : faults_now ≡ count_by soak_output faults answer
+  pub starts : refused_now ≡ count_by soak_refused refused answer
+
+-- how a soak of `n` records by `w` workers ends: nothing was read
+abbrev pub Soaked : ℕ → ℕ → Outside → Outside → Result ℕ SoakCause → Type 0
+Soaked n w before now (Ok k) =
+    (k ≡ 0) × Appends before.taken now.taken (soaked n) × Threaded n w before.starts now.starts before.worked now.worked × ReadsNothing before now
+Soaked n w before now (Err cause) = AppendsPrefix before.taken now.taken (soaked n) × ReadsNothing before now
