@@ -11,7 +11,7 @@ pub const MOST_RECORDS: u64 = 10_000_000;
 /// The most bytes of a record's line: a letter, two digits, a tab, three digits and a newline.
 pub(crate) const LINE: usize = 8;
 
-// Appends the line of record `i` within the room that is reserved.
+/// Appends the line of record `i` within the room that is reserved.
 pub(crate) fn push_line(into: &mut Vec<u8>, i: u64)
     requires few { i ≤ MOST_RECORDS }
     requires room { vec_len into.old + LINE ≤ vec_capacity into.old }

@@ -14,7 +14,7 @@ use std::alloc::Global;
 /// The most workers of a soak.
 pub const MOST_WORKERS: u32 = 16;
 
-// The network, which keeps all rules.
+/// The network, which keeps all rules.
 pub(crate) fn soak_network(alloc: Global, workers: u32) -> Result<Checked<Op>, NoMemory>
     requires some { 1 ≤ workers }
     requires few { workers ≤ MOST_WORKERS }

@@ -24,7 +24,7 @@ impl Model for HeldSink {
 }
 
 impl HeldSink {
-    // A sink that took nothing.
+    /// A sink that took nothing.
     pub(crate) fn new(alloc: Global) -> HeldSink
         ensures { result ≡ opened_held }
     {
@@ -34,7 +34,7 @@ impl HeldSink {
         }
     }
 
-    // The bytes that it took.
+    /// The bytes that it took.
     pub(crate) fn taken(&self) -> &[u8]
         ensures { result.now ≡ self.now.bytes }
     {

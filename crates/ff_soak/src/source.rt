@@ -45,7 +45,7 @@ impl Model for SoakSource {
 }
 
 impl SoakSource {
-    // A source of the first so many records.
+    /// A source of the first so many records.
     pub(crate) fn new(alloc: Global, records: u64) -> Result<SoakSource, NoMemory>
         requires { records ≤ MOST_RECORDS }
         ensures { IfOk result (λ source. source ≡ opened_making records) }

@@ -9,7 +9,7 @@ ghost use Rattle.ff_soak.specs.Summaries.{summary_of};
 use crate::Summary;
 use ff_rec::{read_number, split};
 
-// The summary of the records of a text, which came of so many.
+/// The summary of the records of a text, which came of so many.
 pub(crate) fn summarize(made: u64, bytes: &[u8]) -> Summary
     ensures { result ≡ summary_of made (records bytes.now) }
 {

@@ -10,8 +10,8 @@ use Rattle.ff_top.proofs.soak.write_soak.Goals as goal
 pub returns-in-Ok-clause-soaks : goal.returns-in-Ok-clause-soaks
 returns-in-Ok-clause-soaks g c =
     let wrote =
-            c.deref.ensures.value ∙ c.in_ok-print_summary.ensures ∙ ap (λ xs. xs ++ summary_text c.in_ok-summary.summary) c.new-text.ensures.items
-            ∙ ap summary_text (c.in_ok-summary.ensures.summary 0 1) ∙ ap (λ m. summary_text (summary_of m (soak_answer 0 1 m))) c.min-n.ensures in
+    c.deref.ensures.value ∙ c.in_ok-print_summary.ensures ∙ ap (λ xs. xs ++ summary_text c.in_ok-summary.summary) c.new-text.ensures.items
+    ∙ ap summary_text (c.in_ok-summary.ensures.summary 0 1) ∙ ap (λ m. summary_text (summary_of m (soak_answer 0 1 m))) c.min-n.ensures in
     record {
       none = refl;
       all = subst (λ b. Appends (g.O.Sink.taken c.args.out.now) (g.O.Sink.taken c.write_all.new.sink) b) wrote c.in-Ok.ensures.all;
@@ -23,8 +23,8 @@ returns-in-Ok-clause-soaks g c =
 pub returns-clause-soaks : goal.returns-clause-soaks
 returns-clause-soaks g c =
     let wrote =
-            c.deref.ensures.value ∙ c.in_ok-print_summary.ensures ∙ ap (λ xs. xs ++ summary_text c.in_ok-summary.summary) c.new-text.ensures.items
-            ∙ ap summary_text (c.in_ok-summary.ensures.summary 0 1) ∙ ap (λ m. summary_text (summary_of m (soak_answer 0 1 m))) c.min-n.ensures in
+    c.deref.ensures.value ∙ c.in_ok-print_summary.ensures ∙ ap (λ xs. xs ++ summary_text c.in_ok-summary.summary) c.new-text.ensures.items
+    ∙ ap summary_text (c.in_ok-summary.ensures.summary 0 1) ∙ ap (λ m. summary_text (summary_of m (soak_answer 0 1 m))) c.min-n.ensures in
     record {
       none = tt;
       all = tt;
