@@ -11,8 +11,9 @@ use Rattle.ff_node.specs.Sends.{Sent, add}
 use Rattle.ff_node.proofs.SendsLaws.{add-add, add-nothing}
 use Rattle.ff_net.specs.declared.net.Test.{Test}
 use Rattle.ff_net.specs.Levels.{meets, again, leaves_with}
-use Rattle.ff_mean.specs.Rounds.{IsPlainState, Sorts, RunsLevel}
-use Rattle.ff_mean.specs.declared.tasks.Tasks.{Tasks}
+use Rattle.ff_net.specs.Sorts.{Sorts}
+use Rattle.ff_net.specs.declared.tasks.Tasks.{Tasks}
+use Rattle.ff_mean.specs.Rounds.{IsPlainState, RunsLevel}
 use Rattle.ff_mean.proofs.NodeSteps.{add-taken}
 
 module _ {S : Type 0} (b : Behaviour S) (keeps : KeepsKind b) (law : (o : S) → ClassLaw b o (b.class o)) where

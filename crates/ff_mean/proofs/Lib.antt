@@ -1,7 +1,6 @@
 pub mod Pipelines
 pub mod Groups
 pub mod NodeSteps
-pub mod Sorting
 pub mod LevelSteps
 pub mod RoundSteps
 pub mod RoundLaws

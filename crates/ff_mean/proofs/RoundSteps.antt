@@ -10,7 +10,7 @@ use Rattle.ff_net.specs.declared.net.Test.{Test}
 use Rattle.ff_net.specs.Levels.{again, leaves_with, levels, over_levels, IsOver}
 use Rattle.ff_mean.specs.Gathering.{HasRunRounds}
 use Rattle.ff_mean.specs.Rounds.{RunsLevel}
-use Rattle.ff_mean.specs.declared.tasks.Tasks.{Tasks}
+use Rattle.ff_net.specs.declared.tasks.Tasks.{Tasks}
 use Rattle.ff_mean.proofs.NodeSteps.{empty-added}
 
 module _ (send reject : Rec → List Rec) (p : Test) where

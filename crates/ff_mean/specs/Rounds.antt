@@ -1,31 +1,20 @@
--- The steps of a wrap: what becomes of what its worker sends, and of a whole level.
-use Rattle.std.specs.Prelude.{◌≡◌, ◌+◌, ◌<◌, Bool, true, false, not, List, [], ◌++◌, length}
-use Rattle.std.specs.List.{filter, flat_map}
+-- The steps of a wrap: what becomes of a whole level.
+use Rattle.std.specs.Prelude.{◌≡◌, ◌+◌, ◌<◌, Bool, true, false, List, ◌++◌, length, []}
+use Rattle.std.specs.List.{flat_map}
 use Rattle.ff_rec.specs.Lines.{Rec}
 use Rattle.ff_node.specs.declared.class.Class.TheVariants.{Plain}
 use Rattle.ff_node.specs.Behaviour.{Behaviour}
 use Rattle.ff_node.specs.Classes.{reached}
 use Rattle.ff_node.specs.Sends.{Sent, add}
 use Rattle.ff_net.specs.declared.net.Test.{Test}
+use Rattle.ff_net.specs.declared.tasks.Tasks.{Tasks}
 use Rattle.ff_net.specs.Levels.{again, leaves_with}
-use Rattle.ff_mean.specs.declared.tasks.Tasks.{Tasks}
 
 -- a Plain node in a state that records led to
 pub record IsPlainState {S : Type 0} (b : Behaviour S) (s : S) : Type 0 where
   pub class : b.class s ≡ Plain
   pub seen : List Rec
   pub is : s ≡ reached b s seen
-
--- from `x` to `y` the new tasks and the results among these were added, and the tasks took their room
-pub record Sorts (round : Rec → Bool) (sends : List Rec) (x y : Tasks) : Type 0 where
-  pub next : y.next ≡ x.next ++ filter round sends
-  pub results : y.results ≡ x.results ++ filter (λ r. not (round r)) sends
-  pub room : y.room + length (filter round sends) ≡ x.room
-
--- all that was sent was taken out and sorted, or there isn't room for all of it
-abbrev pub HasSorted : (Rec → Bool) → Tasks → Tasks → Sent → Sent → Bool → Type 0
-HasSorted round x y before after true = Sorts round before.sends x y × (after ≡ record before { sends = [] })
-HasSorted round x y before after false = x.room < length (filter round before.sends)
 
 -- the worker sends `send r` for a record and rejects `reject r`: of a whole level the new tasks and the results were added
 pub record RunsLevel (send reject : Rec → List Rec) (p : Test) (level : List Rec) (x y : Tasks) (before after : Sent) : Type 0 where

@@ -8,7 +8,6 @@ mod part;
 mod pipeline;
 mod rounds;
 mod single;
-mod tasks;
 
 pub use ff_node::Records;
 pub use network::run_one;

@@ -6,8 +6,7 @@ ghost use Rattle.ff_node.specs.declared.class.Class.TheVariants.{Plain};
 ghost use Rattle.ff_mean.specs.Gathering.{HasRunRounds};
 ghost use Rattle.ff_mean.specs.Rounds.{IsPlainState, HasRunLevel};
 
-use crate::tasks::{Tasks, sort};
-use ff_net::Test;
+use ff_net::{Tasks, Test, sort};
 use ff_node::{Node, Records, Sends};
 use ff_rec::{NoMemory, Record};
 use std::alloc::Global;

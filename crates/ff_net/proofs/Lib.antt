@@ -1,6 +1,7 @@
 pub mod CountLaws
 pub mod NodeLists
 pub mod Search
+pub mod Sorting
 pub mod FirstFault
 pub mod Kept
 pub mod NodeSets

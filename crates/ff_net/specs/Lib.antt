@@ -4,6 +4,7 @@ pub mod Counts
 pub mod Limits
 pub mod Nodes
 pub mod Levels
+pub mod Sorts
 pub mod Logs
 pub mod Meaning
 pub mod Kept

@@ -18,11 +18,13 @@ mod nodes;
 mod path;
 mod rule;
 mod spot;
+mod tasks;
 
 pub use checked::{Checked, check};
 pub use fault::RuleFault;
 pub use net::{Net, Route, Sched, Test, Version};
 pub use path::Path;
+pub use tasks::{Tasks, sort};
 
 #[cfg(test)]
 mod tests;

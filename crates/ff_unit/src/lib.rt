@@ -21,7 +21,7 @@ pub use flags::Flags;
 pub use keys::key_place;
 pub use merge::Merge;
 pub use mode::Mode;
-pub use stage::Stage;
+pub use stage::{Stage, drop_sends, take_held};
 pub use takes::take_any;
 pub use unit::Unit;
 

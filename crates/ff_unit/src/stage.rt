@@ -12,7 +12,7 @@ use crate::{Mode, Unit};
 use ff_node::{Node, Sends};
 use ff_port::{End, Past, Ports, Put, Step};
 use ff_rec::{Msg, Record};
-use held::{drop_sends, take_held};
+pub use held::{drop_sends, take_held};
 use std::alloc::Global;
 use std::marker::Model;
 

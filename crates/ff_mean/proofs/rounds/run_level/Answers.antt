@@ -2,7 +2,7 @@
 use Rattle.std.proofs.Common.{◌≡◌, true, ap, ◌∙◌, subst}
 use Rattle.ff_node.specs.Sends.{add}
 use Rattle.ff_net.specs.Levels.{meets}
-use Rattle.ff_mean.specs.Rounds.{HasSorted}
+use Rattle.ff_net.specs.Sorts.{HasSorted}
 use Rattle.ff_mean.proofs.LevelSteps.{RunsLevelOn-next}
 use Rattle.ff_mean.proofs.rounds.run_level.Goals as goal
 

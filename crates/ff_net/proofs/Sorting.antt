@@ -3,8 +3,8 @@ use Rattle.std.proofs.Common.{◌≡◌, ◌+◌, ◌<◌, Bool, true, false, no
 use Rattle.std.specs.List.{filter}
 use Rattle.ff_rec.specs.Lines.{Rec}
 use Rattle.ff_node.specs.Sends.{Sent}
-use Rattle.ff_mean.specs.Rounds.{Sorts}
-use Rattle.ff_mean.specs.declared.tasks.Tasks.{Tasks}
+use Rattle.ff_net.specs.Sorts.{Sorts}
+use Rattle.ff_net.specs.declared.tasks.Tasks.{Tasks}
 
 -- what is left of the sends with what was sorted is all
 pub record SortsOn (round : Rec → Bool) (x y : Tasks) (before after : Sent) : Type 0 where

@@ -1,7 +1,7 @@
 use Rattle.std.proofs.Common.{length}
 use Rattle.ff_net.specs.Levels.{meets}
-use Rattle.ff_mean.proofs.Sorting.{SortsOn}
-use Rattle.ff_mean.proofs.tasks.sort.Given as goal
+use Rattle.ff_net.proofs.Sorting.{SortsOn}
+use Rattle.ff_net.proofs.tasks.sort.Given as goal
 
 -- how far the sends were sorted
 abbrev pub invariant-loop-r : goal.invariant-loop-r

@@ -1,0 +1,12 @@
+pub mod Backward
+pub mod Queues
+pub mod MasterCounts
+pub mod MasterSteps
+pub mod MasterEnds
+pub mod MasterViews
+pub mod Fewer
+pub mod WorkSteps
+pub mod WorkIdles
+pub mod WorkViews
+pub mod WrapLogs
+pub mod RoundSteps
