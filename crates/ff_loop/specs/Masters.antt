@@ -3,7 +3,7 @@ use Rattle.std.specs.Prelude.{◌≡◌, ℕ, ◌<◌, List, [], ◌∷◌, ◌+
 use Rattle.std.specs.List.{concat}
 use Rattle.ff_rec.specs.Weights.{Same}
 use Rattle.ff_loop.specs.Events.{numbers, backs, NoneReady}
-use Rattle.ff_loop.specs.Moves.{Move, Gave, events_on, numbers_to, numbers_from, IsLegal}
+use Rattle.ff_loop.specs.Moves.{Move, Gave, events_on, numbers_to, numbers_from, IsLegal, IsDone}
 use Rattle.ff_loop.specs.Scheduling.{Scheduling, made_by}
 
 pub record MasterState (T A S : Type 0) : Type 0 where
@@ -29,6 +29,10 @@ pub record IsKept {T A S : Type 0} (d : Scheduling T A S) (m : MasterState T A S
   -- what is out is what workers hold
   pub balance : Same (backs (d.events m.scheduler) ++ concat m.held) (numbers (d.events m.scheduler))
   pub legal : IsLegal (length m.held) (d.made (d.kind m.start)) (d.events m.start) m.log
+
+-- all that there was to do for this master is done
+abbrev pub HasDoneAll : {T A S : Type 0} → Scheduling T A S → MasterState T A S → Type 0
+HasDoneAll d m = IsDone (length m.held) (d.made (d.kind m.start)) (d.events m.start) m.log
 
 -- a move was made, and everything else stayed
 pub record Moves {T A S : Type 0} (d : Scheduling T A S) (m m' : MasterState T A S) (move : Move T A) : Type 0 where

@@ -1,8 +1,8 @@
 // Between a scheduler and its workers.
 ghost use Rattle.std.specs.Prelude.{◌≡◌, ℕ, ◌+◌, ◌<◌, ◌↔◌, length, IsTrue, IfOk, OnOk};
 ghost use Rattle.ff_loop.specs.Events.{IsIdle, NoneOut};
-ghost use Rattle.ff_loop.specs.Masters.{opened_master, IsKept, Moves, Gives};
-ghost use Rattle.ff_loop.specs.Moves.{Fed, Got, asked, answered, IsDone};
+ghost use Rattle.ff_loop.specs.Masters.{opened_master, HasDoneAll, IsKept, Moves, Gives};
+ghost use Rattle.ff_loop.specs.Moves.{Fed, Got, asked, answered};
 ghost use Rattle.ff_loop.specs.Scheduling.{made_by};
 
 mod wraps;
@@ -101,7 +101,7 @@ impl<T: Drop, A: Drop, S: Scheduler<T, A>> Master<T, A, S> {
     pub fn idle(&self) -> bool
         requires { IsKept S.does self.now }
         ensures idle { IsTrue result ↔ IsIdle (made_by S.does self.now.scheduler) (S.does.events self.now.scheduler) }
-        ensures done { IsTrue result ↔ IsDone (length self.now.held) (S.does.made (S.does.kind self.now.start)) (S.does.events self.now.start) self.now.log }
+        ensures done { IsTrue result ↔ HasDoneAll S.does self.now }
     {
         self.scheduler.idle()
     }
