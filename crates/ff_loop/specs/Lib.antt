@@ -7,6 +7,8 @@ pub mod Worklists
 pub mod Rounds
 pub mod WorkerSteps
 pub mod WorkerUnit
+pub mod WrapMasters
+pub mod Works
 -- lemmas: nothing to trust
 pub mod WorkLaws
 pub mod WorkerMarkLaws
@@ -15,3 +17,4 @@ pub mod WorkerRunLaws
 pub mod WorkerKindLaws
 pub mod WorkerPortLaws
 pub mod WorkerLaws
+pub mod WrapTiedLaws

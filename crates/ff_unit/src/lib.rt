@@ -15,7 +15,7 @@ mod takes;
 mod unit;
 
 pub use closing::{last_message, spoil};
-pub use deal::Deal;
+pub use deal::{Deal, Held, HeldPut, Last};
 pub use dealing::Dealing;
 pub use flags::Flags;
 pub use keys::key_place;
