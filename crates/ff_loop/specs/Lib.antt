@@ -18,3 +18,4 @@ pub mod WorkerKindLaws
 pub mod WorkerPortLaws
 pub mod WorkerLaws
 pub mod WrapTiedLaws
+pub mod WrapMasterLaws

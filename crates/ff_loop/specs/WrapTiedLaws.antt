@@ -74,6 +74,8 @@ pub record TiedShut (u : WrapState) (g : List (List Message)) (ps : List Pair) :
   pub ended_0 : slice_index_or u.live 0 false ≡ false
   pub answers : (j : ℕ) → j < workers_of u.round → AnswersShut (log_of u.round) j (slice_index_or u.live (suc j) false) (at g (suc j))
   pub telling : IsTold EosMsg (suc (workers_of u.round)) u.held ps
+  -- once every in has ended, all workers were told
+  pub last_alone : any_live u.live ≡ false → (j : ℕ) → j < workers_of u.round → on j u.held ≡ []
 
 -- it was cut off: what was put and what is held are beginnings of what would have come
 pub record TiedCut (u : WrapState) (g : List (List Message)) (ps : List Pair) : Type 0 where
