@@ -2,6 +2,7 @@
 use Rattle.std.specs.Prelude.{◌≡◌}
 use Rattle.ff_node.specs.Behaviour.{Behaviour}
 use Rattle.ff_node.specs.Fits.{FitsWorker}
+use Rattle.ff_node.specs.Runs.{BeginsToFit}
 use Rattle.ff_node.specs.declared.class.Class.TheVariants.{Plain}
 use Rattle.ff_unit.specs.Stage.{StageState}
 use Rattle.ff_unit.specs.StageUnit.{stage_does}
@@ -14,4 +15,5 @@ worker_does b = record (stage_does b) {
   Made = λ u. b.class u.node ≡ Plain;
   Steps = WorkerStep b;
   Fits = λ u. FitsWorker b u.node;
+  Begins = λ u gots puts. BeginsToFit (FitsWorker b u.node) gots puts;
 }

@@ -3,6 +3,7 @@ use Rattle.std.specs.Prelude.{◌≡◌, true, [], Some}
 use Rattle.ff_rec.specs.Streams.{at, items}
 use Rattle.ff_node.specs.Behaviour.{Behaviour, node_rejected}
 use Rattle.ff_node.specs.Fits.{FitsStage}
+use Rattle.ff_node.specs.Runs.{BeginsToFit}
 use Rattle.ff_port.specs.declared.answers.End.TheVariants.{Abort}
 use Rattle.ff_unit.specs.Stage.{StageState, opening_stage}
 use Rattle.ff_unit.specs.StagePorts.{StageReady, Stalls}
@@ -34,5 +35,6 @@ stage_does b = record {
   Ready = StageReady;
   Stalls = λ u before after. Stalls u.held u.fin before after;
   Fits = λ u. FitsStage b u.node;
+  Begins = λ u gots puts. BeginsToFit (FitsStage b u.node) gots puts;
   rejected = λ u gots. node_rejected b u.node (items (at gots 0));
 }
