@@ -18,4 +18,11 @@ pub mod WorkerKindLaws
 pub mod WorkerPortLaws
 pub mod WorkerLaws
 pub mod WrapTiedLaws
+pub mod WrapPortLaws
+pub mod WrapBeginsLaws
+pub mod WrapFitsLaws
+pub mod WrapReadyLaws
+pub mod WrapAbortLaws
+pub mod WrapKindLaws
+pub mod WrapKeptLaws
 pub mod WrapMasterLaws
