@@ -18,4 +18,5 @@ pub mod WorkerKindLaws
 pub mod WorkerPortLaws
 pub mod WorkerLaws
 pub mod WrapTiedLaws
+pub mod WrapNextLaws
 pub mod WrapMasterLaws
