@@ -18,4 +18,6 @@ pub mod WorkerKindLaws
 pub mod WorkerPortLaws
 pub mod WorkerLaws
 pub mod WrapTiedLaws
+pub mod WrapMessageLaws
+pub mod WrapCutLaws
 pub mod WrapMasterLaws
