@@ -18,5 +18,7 @@ pub mod WorkerKindLaws
 pub mod WorkerPortLaws
 pub mod WorkerLaws
 pub mod WrapTiedLaws
+pub mod WrapMessageLaws
+pub mod WrapCutLaws
 pub mod WrapNextLaws
 pub mod WrapMasterLaws

@@ -2,7 +2,6 @@
 use Rattle.ff_unit.specs.Units.{IsUnit}
 use Rattle.ff_loop.specs.WrapMasters.{wrap_does}
 use Rattle.ff_loop.specs.WrapTiedLaws.{IsTied}
-use Rattle.ff_loop.specs.WrapNextLaws.{TiedWorks-kept}
 
 pub IsUnit-wrap : IsUnit wrap_does
 IsUnit-wrap = ?
