@@ -21,4 +21,6 @@ pub mod WrapTiedLaws
 pub mod WrapMessageLaws
 pub mod WrapCutLaws
 pub mod WrapNextLaws
+pub mod WrapTellsLaws
+pub mod WrapGoesLaws
 pub mod WrapMasterLaws
