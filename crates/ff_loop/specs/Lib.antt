@@ -11,6 +11,7 @@ pub mod WrapMasters
 pub mod Works
 -- lemmas: nothing to trust
 pub mod WorkLaws
+pub mod MasterLaws
 pub mod WorkerMarkLaws
 pub mod WorkerTakesLaws
 pub mod WorkerRunLaws
@@ -23,4 +24,7 @@ pub mod WrapCutLaws
 pub mod WrapNextLaws
 pub mod WrapTellsLaws
 pub mod WrapGoesLaws
+pub mod WrapGaveLaws
+pub mod WrapOpenedLaws
+pub mod WrapKeptLaws
 pub mod WrapMasterLaws
