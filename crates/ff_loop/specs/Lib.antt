@@ -20,4 +20,7 @@ pub mod WorkerLaws
 pub mod WrapTiedLaws
 pub mod WrapMessageLaws
 pub mod WrapCutLaws
+pub mod WrapTakenLaws
+pub mod WrapAnswerLaws
+pub mod WrapWorksLaws
 pub mod WrapMasterLaws

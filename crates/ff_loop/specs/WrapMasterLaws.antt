@@ -3,6 +3,9 @@ use Rattle.ff_unit.specs.Units.{IsUnit}
 use Rattle.ff_loop.specs.WrapMasters.{wrap_does}
 use Rattle.ff_loop.specs.WrapTiedLaws.{IsTied}
 use Rattle.ff_loop.specs.WrapCutLaws.{TiedCut-works}
+use Rattle.ff_loop.specs.WrapWorksLaws.{works-fed}
+use Rattle.ff_loop.specs.WrapTakenLaws.{cut-tied}
+use Rattle.ff_loop.specs.WrapAnswerLaws.{got_from-own}
 
 pub IsUnit-wrap : IsUnit wrap_does
 IsUnit-wrap = ?
