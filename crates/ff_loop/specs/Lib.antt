@@ -23,4 +23,6 @@ pub mod WrapCutLaws
 pub mod WrapTakenLaws
 pub mod WrapAnswerLaws
 pub mod WrapWorksLaws
+pub mod WrapWorkerLaws
+pub mod WrapWorkingLaws
 pub mod WrapMasterLaws

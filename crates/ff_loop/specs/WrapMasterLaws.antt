@@ -3,6 +3,8 @@ use Rattle.ff_unit.specs.Units.{IsUnit}
 use Rattle.ff_loop.specs.WrapMasters.{wrap_does}
 use Rattle.ff_loop.specs.WrapTiedLaws.{IsTied}
 use Rattle.ff_loop.specs.WrapCutLaws.{TiedCut-works}
+use Rattle.ff_loop.specs.WrapWorkerLaws.{works-part}
+use Rattle.ff_loop.specs.WrapWorkingLaws.{working-bare}
 use Rattle.ff_loop.specs.WrapWorksLaws.{works-fed}
 use Rattle.ff_loop.specs.WrapTakenLaws.{cut-tied}
 use Rattle.ff_loop.specs.WrapAnswerLaws.{got_from-own}

@@ -21,7 +21,7 @@ use Rattle.ff_loop.specs.WrapMasters.{WrapState, IsFed, IsAnswered, part_at, owe
 use Rattle.ff_loop.specs.WrapTiedLaws.{HoldsFed, AnswersWhole, TiedWorks}
 
 -- a fact on all numbers, by that on one of them and on the others
-by_number : (P : ℕ → Type 0) (j i : ℕ) → P j → ((i ≡ j → ⊥) → P i) → P i
+pub by_number : (P : ℕ → Type 0) (j i : ℕ) → P j → ((i ≡ j → ⊥) → P i) → P i
 by_number P j i own other = ⊎_elim (λ (e : i ≡ j). subst P (sym e) own) (λ (e : i ≡ j → ⊥). other e) (cases_eq i j)
 
 -- in 0 gives a record, another message that goes on, or its end
@@ -34,7 +34,7 @@ HoldsFed-drops ms xs m is none h =
 
 module _ (u : WrapState) (g : List (List Message)) (ps : List Pair) (t : TiedWorks u g ps) where
   -- what is put stays: of the same log, but for what was taken
-  works : (v : WrapState) (g' : List (List Message)) → v.end ≡ u.end → v.done ≡ u.done → v.held ≡ u.held → workers_of v.round ≡ workers_of u.round
+  pub works : (v : WrapState) (g' : List (List Message)) → v.end ≡ u.end → v.done ≡ u.done → v.held ≡ u.held → workers_of v.round ≡ workers_of u.round
       → taken_of v.round ≡ taken_of u.round → ((j : ℕ) → given_to j (log_of v.round) ≡ given_to j (log_of u.round))
       → HoldsFed (slice_index_or v.live 0 false) (at g' 0) (fed (log_of v.round))
       → ((j : ℕ) → j < workers_of u.round → AnswersWhole (log_of v.round) j (part_at v j).sends (at g' (suc j)))
