@@ -21,6 +21,11 @@ pub mod WorkerLaws
 pub mod WrapTiedLaws
 pub mod WrapMessageLaws
 pub mod WrapCutLaws
+pub mod WrapTakenLaws
+pub mod WrapAnswerLaws
+pub mod WrapWorksLaws
+pub mod WrapWorkerLaws
+pub mod WrapWorkingLaws
 pub mod WrapNextLaws
 pub mod WrapTellsLaws
 pub mod WrapGoesLaws

@@ -21,16 +21,12 @@ use Rattle.ff_loop.specs.WrapCutLaws.{TiedCut-works}
 use Rattle.ff_loop.specs.WrapNextLaws.{TiedWorks-kept, TiedWorks-gives, TiedWorks-sends}
 use Rattle.ff_loop.specs.WrapTellsLaws.{TiedShut-tells}
 use Rattle.ff_loop.specs.WrapTiedLaws.{TiedWorks, TiedAt, BareAt, IsBare, IsTied}
+use Rattle.ff_loop.specs.WrapWorkingLaws.{length-to_ends}
 
 -- no task came
 pub is_past-goes : (s s' : RoundState) (events : List Event) (out : List Rec) → GoesRound s s' events out → came (test_of s) events ≡ came (test_of s) (log_of s)
     → is_past s' ≡ is_past s
 is_past-goes s s' events out goes same = ap₂ (λ m n. nat_lt m n) goes.limit (ap length (ap₂ came goes.test goes.log ∙ same))
-
--- as many flags
-length-to_ends : (live : List Bool) → length (to_ends live) ≡ length live
-length-to_ends [] = refl
-length-to_ends (l ∷ live) = ap suc (length-all_live (length live))
 
 -- within an act a master that doesn't work, or holds something, is tied as it is between two
 pub IsTied-bare : (w : WrapState) (gots puts : List (List Message)) (b : IsBare w gots puts) → TiedAt w.mode w gots b.given → IsTied w gots puts

@@ -16,18 +16,14 @@ use Rattle.ff_loop.specs.Rounds.{test_of, limit_of, workers_of}
 use Rattle.ff_loop.specs.WrapMasters.{WrapState, WrapStep, WrapTakes, WorkingTakes, shut_takes, cut_takes, cut_off, to_ends, opening_wrap}
 use Rattle.ff_loop.specs.WrapCutLaws.{TiedCut-works, TiedCut-told}
 use Rattle.ff_loop.specs.WrapGaveLaws.{IsTold-refuses, gave-bare}
-use Rattle.ff_loop.specs.WrapGoesLaws.{length-to_ends, pulls-tied}
+use Rattle.ff_loop.specs.WrapGoesLaws.{pulls-tied}
 use Rattle.ff_loop.specs.WrapOpenedLaws.{IsTied-opened}
+use Rattle.ff_loop.specs.WrapTakenLaws.{cut-tied}
 use Rattle.ff_loop.specs.WrapTiedLaws.{TiedWorks, TiedShut, TiedCut, TiedAt, IsBare, IsTied}
-
-working-bare : (u : WrapState) (gots puts : List (List Message)) → IsTied u gots puts → u.mode ≡ Live → u.held ≡ [] → (k : ℕ) (m : Message) (w : WrapState) → IsLive u.live k → WorkingTakes u k m w → IsBare w (added gots k m) puts
-working-bare = ?
+use Rattle.ff_loop.specs.WrapWorkingLaws.{length-to_ends, working-bare}
 
 shut-tied : (u : WrapState) (gots puts : List (List Message)) → IsTied u gots puts → u.mode ≡ Shut → u.held ≡ [] → (k : ℕ) (m : Message) → IsLive u.live k → IsBare (shut_takes u k m) (added gots k m) puts
 shut-tied = ?
-
-cut-tied : (u : WrapState) (gots puts : List (List Message)) → IsTied u gots puts → u.mode ≡ Cut → u.held ≡ [] → (k : ℕ) (m : Message) → IsLive u.live k → IsBare (cut_takes u k m) (added gots k m) puts
-cut-tied = ?
 
 module _ (u : WrapState) (gots puts : List (List Message)) (t : IsTied u gots puts) where
   -- a message is taken
@@ -37,7 +33,7 @@ module _ (u : WrapState) (gots puts : List (List Message)) (t : IsTied u gots pu
       by : (mode : Mode) → u.mode ≡ mode → WrapTakes mode u k m w → IsBare w (added gots k m) puts
       by Live is s = working-bare u gots puts t is none k m w on s
       by Shut is s = subst (λ x. IsBare x (added gots k m) puts) (sym s) (shut-tied u gots puts t is none k m on)
-      by Cut is s = subst (λ x. IsBare x (added gots k m) puts) (sym s) (cut-tied u gots puts t is none k m on)
+      by Cut is s = subst (λ x. IsBare x (added gots k m) puts) (sym s) (cut-tied u gots puts t is k m on)
 
   -- a put is refused memory: what is told isn't
   refused_cut : (mode : Mode) → TiedAt mode u gots t.given → MayBeRefused None u.held → TiedCut (cut_off u Memory) gots t.given
