@@ -1,5 +1,5 @@
 -- A master that did nothing yet holds nothing.
-use Rattle.std.proofs.Common.{◌≡◌, ℕ, zero, suc, ◌<◌, [], length, replicate, refl, sym, ap, subst, arith}
+use Rattle.std.proofs.Common.{◌≡◌, ℕ, zero, suc, ◌<◌, [], replicate, refl, sym, ap, subst, arith}
 use Rattle.std.proofs.lemmas.List.{length-replicate, get_or-replicate}
 use Rattle.std.specs.List.{concat}
 use Rattle.ff_rec.specs.Weights.{weigh}
@@ -13,6 +13,7 @@ pub concat-none : (n : ℕ) → concat (replicate n []) ≡ []
 concat-none zero = refl
 concat-none (suc n) = concat-none n
 
+-- where no number of its scheduler is out, what it holds is as its log says
 pub IsKept-opened : {T A S : Type 0} (d : Scheduling T A S) (s : S) (n : ℕ) → IsScheduling d → d.IsRight s → NoneOut (d.events s) → IsKept d (opened_master s n)
 IsKept-opened d s n sound right none_out = record {
   right = right;

@@ -1,6 +1,6 @@
 -- A wrap's master puts what it holds first, and stays tied to its ports.
 use Rattle.std.specs.Prelude.{◌≡◌, ◌+◌, ◌<◌, ◌≤◌, ◌==◌, ℕ, zero, suc, Bool, true, false, List, [], ◌∷◌, ◌++◌, None}
-use Rattle.std.proofs.Common.{refl, sym, ap, ◌∙◌, subst, arith, cond, append-nil, append_assoc}
+use Rattle.std.proofs.Common.{sym, ap, ◌∙◌, subst, arith, cond, append-nil, append_assoc}
 use Rattle.ff_rec.specs.Streams.{IsOpen, IsOpenMsg, added, unaborted}
 use Rattle.ff_rec.specs.declared.msg.Msg.TheVariants.{Eos as EosMsg, Abort as AbortMsg}
 use Rattle.ff_net.specs.Logs.{HasEos, BeginsWhole, came_out, given_to}

@@ -1,5 +1,5 @@
 -- A wrap's master is tied to its ports again once it has found what is to be put next.
-use Rattle.std.specs.Prelude.{◌≡◌, ◌≢◌, ◌⊎◌, ◌≤◌, ℕ, suc, Bool, true, false, nat_lt, List, [], ◌∷◌, length, slice_set}
+use Rattle.std.specs.Prelude.{◌≡◌, ◌≢◌, ◌⊎◌, ◌≤◌, suc, Bool, true, false, nat_lt, List, [], ◌∷◌, length, slice_set}
 use Rattle.std.proofs.Common.{refl, sym, ap, ap₂, ◌∙◌, subst, inl, inr, length-set}
 use Rattle.std.proofs.lemmas.Bool.{false≢true}
 use Rattle.ff_rec.specs.Lines.{Rec}
@@ -8,15 +8,15 @@ use Rattle.ff_net.specs.Logs.{Event, came}
 use Rattle.ff_node.specs.Runs.{Message}
 use Rattle.ff_port.specs.declared.answers.End.{End}
 use Rattle.ff_port.specs.declared.answers.End.TheVariants.{Eos, Abort, Memory}
-use Rattle.ff_unit.specs.Closing.{any_live, all_live}
+use Rattle.ff_unit.specs.Closing.{all_live}
 use Rattle.ff_unit.specs.DealPairLaws.{Pair}
 use Rattle.ff_unit.specs.DealRowLaws.{ArePut}
 use Rattle.ff_unit.specs.FlagLaws.{length-all_live}
 use Rattle.ff_unit.specs.Units.{TookAbort}
 use Rattle.ff_unit.specs.declared.mode.Mode.{Mode}
 use Rattle.ff_unit.specs.declared.mode.Mode.TheVariants.{Live, Shut, Cut}
-use Rattle.ff_loop.specs.Rounds.{RoundState, test_of, limit_of, workers_of, log_of, taken_of, GoesRound}
-use Rattle.ff_loop.specs.WrapMasters.{WrapState, is_past, cut_off, to_ends, GivesNext, SendsNext, TellsWorkers, ReadsOn, FindsNext, KeepsRound, GoesNext, Pulls}
+use Rattle.ff_loop.specs.Rounds.{RoundState, test_of, workers_of, log_of, GoesRound}
+use Rattle.ff_loop.specs.WrapMasters.{WrapState, is_past, cut_off, to_ends, GivesNext, SendsNext, TellsWorkers, ReadsOn, KeepsRound, GoesNext, Pulls}
 use Rattle.ff_loop.specs.WrapCutLaws.{TiedCut-works}
 use Rattle.ff_loop.specs.WrapNextLaws.{TiedWorks-kept, TiedWorks-gives, TiedWorks-sends}
 use Rattle.ff_loop.specs.WrapTellsLaws.{TiedShut-tells}

@@ -1,8 +1,8 @@
 -- Every run of a wrap's master keeps it tied to its ports.
-use Rattle.std.specs.Prelude.{◌≡◌, ◌≢◌, ◌⊎◌, ◌≤◌, ℕ, suc, true, false, List, [], ◌∷◌, length, None}
+use Rattle.std.specs.Prelude.{◌≡◌, ◌≢◌, ◌≤◌, ℕ, suc, true, false, List, [], None}
 use Rattle.std.proofs.Common.{refl, sym, ap, ◌∙◌, subst, inl, inr}
 use Rattle.std.proofs.lemmas.Bool.{false≢true}
-use Rattle.ff_rec.specs.Streams.{IsOpenMsg, added}
+use Rattle.ff_rec.specs.Streams.{added}
 use Rattle.ff_rec.specs.declared.msg.Msg.TheVariants.{Eos as EosMsg, Abort as AbortMsg}
 use Rattle.ff_node.specs.Runs.{Message, Act, Took, Gave, Refused, Idle, Told, Handed, HasRun, took, gave}
 use Rattle.ff_port.specs.declared.answers.End.TheVariants.{Eos, Abort, Memory}
@@ -13,13 +13,13 @@ use Rattle.ff_unit.specs.RunLaws.{HasRun-keeps}
 use Rattle.ff_unit.specs.declared.mode.Mode.{Mode}
 use Rattle.ff_unit.specs.declared.mode.Mode.TheVariants.{Live, Shut, Cut}
 use Rattle.ff_loop.specs.Rounds.{test_of, limit_of, workers_of}
-use Rattle.ff_loop.specs.WrapMasters.{WrapState, WrapStep, WrapTakes, WorkingTakes, shut_takes, cut_takes, cut_off, to_ends, opening_wrap}
+use Rattle.ff_loop.specs.WrapMasters.{WrapState, WrapStep, WrapTakes, WorkingTakes, shut_takes, cut_off, to_ends, opening_wrap}
 use Rattle.ff_loop.specs.WrapCutLaws.{TiedCut-works, TiedCut-told}
 use Rattle.ff_loop.specs.WrapGaveLaws.{IsTold-refuses, gave-bare}
 use Rattle.ff_loop.specs.WrapGoesLaws.{pulls-tied}
 use Rattle.ff_loop.specs.WrapOpenedLaws.{IsTied-opened}
 use Rattle.ff_loop.specs.WrapTakenLaws.{cut-tied}
-use Rattle.ff_loop.specs.WrapTiedLaws.{TiedWorks, TiedShut, TiedCut, TiedAt, IsBare, IsTied}
+use Rattle.ff_loop.specs.WrapTiedLaws.{TiedWorks, TiedCut, TiedAt, IsBare, IsTied}
 use Rattle.ff_loop.specs.WrapWorkingLaws.{length-to_ends, working-bare}
 
 shut-tied : (u : WrapState) (gots puts : List (List Message)) → IsTied u gots puts → u.mode ≡ Shut → u.held ≡ [] → (k : ℕ) (m : Message) → IsLive u.live k → IsBare (shut_takes u k m) (added gots k m) puts

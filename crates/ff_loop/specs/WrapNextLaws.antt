@@ -1,12 +1,12 @@
 -- A wrap's master that works stays tied to its ports when it looks for what is to be put next.
-use Rattle.std.specs.Prelude.{◌≡◌, ◌≢◌, ◌⊎◌, ◌+◌, ◌<◌, ◌≤◌, ◌==◌, ℕ, suc, Bool, true, false, nat_lt, if◌then◌else◌, List, [], ◌∷◌, ◌++◌, length, slice_index_or, slice_set}
-use Rattle.std.proofs.Common.{refl, sym, ap, ap₂, ◌∙◌, subst, ⊎_elim, arith, cond, append-nil, length-append, get_or-set_same, get_or-set_other, length-set}
-use Rattle.std.proofs.lemmas.Bool.{cases_eq, false≢true, eq-eqb, ne_eqb}
+use Rattle.std.specs.Prelude.{◌≡◌, ◌+◌, ◌<◌, ◌==◌, ℕ, suc, Bool, true, false, if◌then◌else◌, List, [], ◌∷◌, ◌++◌, length, slice_index_or, slice_set}
+use Rattle.std.proofs.Common.{refl, sym, ap, ap₂, ◌∙◌, subst, ⊎_elim, arith, cond, append-nil, length-append, get_or-set_same, get_or-set_other}
+use Rattle.std.proofs.lemmas.Bool.{cases_eq, eq-eqb, ne_eqb}
 use Rattle.std.proofs.lemmas.List.{map-append, get_or_default}
 use Rattle.ff_rec.specs.Lines.{Rec}
 use Rattle.ff_rec.specs.Streams.{at, carried}
 use Rattle.ff_rec.specs.declared.msg.Msg.TheVariants.{Item}
-use Rattle.ff_net.specs.Logs.{Event, came, fed, given_to, got_from}
+use Rattle.ff_net.specs.Logs.{fed, given_to, got_from}
 use Rattle.ff_net.specs.Logs.{Gave as EventGave}
 use Rattle.ff_node.specs.Runs.{Message}
 use Rattle.ff_unit.specs.DealPairLaws.{Pair, IsInner, AreInner, on, on-append, on-other, AllByRecursion-append, AllByRecursion-front}

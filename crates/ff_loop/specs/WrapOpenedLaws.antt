@@ -1,5 +1,5 @@
 -- A wrap's master that made no step is tied to its ports.
-use Rattle.std.specs.Prelude.{◌≡◌, ◌+◌, ◌<◌, ◌≤◌, ℕ, suc, true, false, List, [], ◌∷◌, length, replicate, slice_index_or}
+use Rattle.std.specs.Prelude.{◌≡◌, ◌<◌, ◌≤◌, ℕ, suc, false, List, [], length, replicate, slice_index_or}
 use Rattle.std.proofs.Common.{refl, sym, ap, ◌∙◌, subst, arith, le-ltb}
 use Rattle.std.proofs.lemmas.Bool.{false≢true}
 use Rattle.std.proofs.lemmas.List.{length-replicate, get_or-replicate}
@@ -12,7 +12,7 @@ use Rattle.ff_unit.specs.DealRowLaws.{ArePut, ArePut-none}
 use Rattle.ff_unit.specs.FlagLaws.{any_live-none, live-none, length-none_live}
 use Rattle.ff_unit.specs.TakenLaws.{at-none}
 use Rattle.ff_loop.specs.MasterLaws.{IsKept-opened}
-use Rattle.ff_loop.specs.Rounds.{workers_of, IsRound, IsLogged}
+use Rattle.ff_loop.specs.Rounds.{IsRound, IsLogged}
 use Rattle.ff_loop.specs.WorkLaws.{IsScheduling-work}
 use Rattle.ff_loop.specs.Worklists.{IsRight, opened_work, work_does}
 use Rattle.ff_loop.specs.WrapMasters.{opened_round, opened_wrap, owed}
