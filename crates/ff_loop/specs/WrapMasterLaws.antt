@@ -5,6 +5,8 @@ use Rattle.ff_loop.specs.WrapTiedLaws.{IsTied}
 use Rattle.ff_loop.specs.WrapCutLaws.{TiedCut-works}
 use Rattle.ff_loop.specs.WrapWorkerLaws.{works-part}
 use Rattle.ff_loop.specs.WrapWorkingLaws.{working-bare}
+use Rattle.ff_loop.specs.WrapShutLaws.{shut-ends}
+use Rattle.ff_loop.specs.WrapShutTakesLaws.{shut-tied}
 use Rattle.ff_loop.specs.WrapWorksLaws.{works-fed}
 use Rattle.ff_loop.specs.WrapTakenLaws.{cut-tied}
 use Rattle.ff_loop.specs.WrapAnswerLaws.{got_from-own}
