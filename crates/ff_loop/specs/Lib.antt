@@ -19,13 +19,15 @@ pub mod WorkerKindLaws
 pub mod WorkerPortLaws
 pub mod WorkerLaws
 pub mod WrapTiedLaws
-pub mod WrapMessageLaws
+pub mod WrapPortLaws
 pub mod WrapCutLaws
 pub mod WrapTakenLaws
 pub mod WrapAnswerLaws
 pub mod WrapWorksLaws
 pub mod WrapWorkerLaws
 pub mod WrapWorkingLaws
+pub mod WrapShutLaws
+pub mod WrapShutTakesLaws
 pub mod WrapNextLaws
 pub mod WrapTellsLaws
 pub mod WrapGoesLaws

@@ -6,15 +6,15 @@ use Rattle.std.proofs.lemmas.Bool.{eq-eqb}
 use Rattle.std.proofs.lemmas.Bool.Decides.{eqb_tells}
 use Rattle.std.proofs.lemmas.List.{map-append}
 use Rattle.ff_rec.specs.Lines.{Rec}
-use Rattle.ff_rec.specs.Streams.{IsOpen, carried}
-use Rattle.ff_rec.specs.declared.msg.Msg.TheVariants.{Item, Mark, Pick}
+use Rattle.ff_rec.specs.Streams.{IsOpenMsg, carried}
+use Rattle.ff_rec.specs.declared.msg.Msg.TheVariants.{Item, Mark, Pick, Eos}
 use Rattle.ff_net.specs.Logs.{Event, got_from}
 use Rattle.ff_net.specs.Logs.{Got as EventGot}
 use Rattle.ff_node.specs.Fits.{IsItemOrMark, grouped}
 use Rattle.ff_node.specs.Runs.{Message}
 use Rattle.ff_unit.specs.DealPairLaws.{AllByRecursion-front, AllByRecursion-back}
 use Rattle.ff_unit.specs.MessageLaws.{IsOpen-append}
-use Rattle.ff_loop.specs.WrapTiedLaws.{AnswersWhole}
+use Rattle.ff_loop.specs.WrapTiedLaws.{AnswersWhole, AnswersShut}
 
 -- one group more
 pub grouped-push : (groups : List (List Rec)) (group : List Rec) → grouped (groups ++ group ∷ []) ≡ grouped groups ++ (carried group ++ Mark ∷ [])
@@ -67,4 +67,24 @@ module _ (log : List Event) (j : ℕ) (part : List Rec) (ms : List Message) (a :
   AnswersWhole-log log' got = record {
     inner = a.inner;
     answers = λ all. a.answers all ∙ ap (λ l. grouped l ++ carried part) (sym got);
+  }
+
+-- of a worker that was told the end: another message, or its end
+module _ (log : List Event) (j : ℕ) (ms : List Message) (a : AnswersShut log j true ms) where
+  pub AnswersShut-more : (m : Message) → IsOpenMsg m → AnswersShut log j true (ms ++ m ∷ [])
+  AnswersShut-more m is = record {
+    front = a.front ++ m ∷ [];
+    is = ap (λ l. l ++ m ∷ []) (a.is ∙ append-nil a.front) ∙ sym (append-nil (a.front ++ m ∷ []));
+    inner = IsOpen-append a.front (m ∷ []) a.inner (is, tt);
+    answers = λ all.
+      let rest = a.answers (AllByRecursion-front IsItemOrMark a.front (m ∷ []) all) in
+      (rest.0 ++ m ∷ [], ap (λ l. l ++ m ∷ []) rest.1 ∙ append_assoc (grouped (got_from j log)) rest.0 (m ∷ []));
+  }
+
+  pub AnswersShut-ends : AnswersShut log j false (ms ++ Eos ∷ [])
+  AnswersShut-ends = record {
+    front = a.front;
+    is = ap (λ l. l ++ Eos ∷ []) (a.is ∙ append-nil a.front);
+    inner = a.inner;
+    answers = a.answers;
   }

@@ -2,27 +2,40 @@
 use Rattle.std.specs.Prelude.{◌≡◌, ◌≢◌, ◌⊎◌, ◌+◌, ◌<◌, ◌≤◌, ℕ, zero, suc, Bool, true, false, List, [], ◌∷◌, ◌++◌, length, slice_index_or}
 use Rattle.std.specs.List.{AllByRecursion}
 use Rattle.std.proofs.Common.{refl, sym, ap, ◌∙◌, subst, arith, append_assoc, inl, inr}
-use Rattle.std.proofs.lemmas.Bool.{cases_eq}
 use Rattle.std.proofs.lemmas.List.{map-append}
 use Rattle.ff_rec.specs.Lines.{Rec}
-use Rattle.ff_rec.specs.Streams.{IsOpen, GoesOn, at, added, carried, unaborted}
-use Rattle.ff_rec.specs.declared.msg.Msg.TheVariants.{Item, Abort as AbortMsg}
+use Rattle.ff_rec.specs.Streams.{IsOpen, GoesOn, at, carried, closed, unaborted}
+use Rattle.ff_rec.specs.declared.msg.Msg.TheVariants.{Item, Mark, Pick, Eos as EosMsg, Abort as AbortMsg}
 use Rattle.ff_net.specs.Logs.{HasEos, BeginsWhole, came, came_out, fed, given_to, got_from}
 use Rattle.ff_node.specs.Fits.{IsItemOrMark, grouped}
 use Rattle.ff_node.specs.Runs.{Message}
 use Rattle.ff_node.specs.Sends.{Sent}
 use Rattle.ff_port.specs.declared.answers.End.{End}
 use Rattle.ff_port.specs.declared.answers.End.TheVariants.{Eos, Abort}
-use Rattle.ff_unit.specs.Closing.{none_live}
 use Rattle.ff_unit.specs.DealPairLaws.{Pair, on, on-append, on-on_outs, IsOpen-on, AreInner, IsInner, AllByRecursion-front}
 use Rattle.ff_unit.specs.Deals.{on_outs}
-use Rattle.ff_unit.specs.MessageLaws.{unaborted-append}
-use Rattle.ff_unit.specs.TakenLaws.{at-added, at-added_other}
+use Rattle.ff_unit.specs.MessageLaws.{unaborted-cut}
 use Rattle.ff_unit.specs.declared.mode.Mode.TheVariants.{Cut}
 use Rattle.ff_loop.specs.Rounds.{test_of, limit_of, workers_of, log_of, taken_of, results_of, IsLogged}
 use Rattle.ff_loop.specs.WrapMasters.{WrapState, cut_off, part_at}
-use Rattle.ff_loop.specs.WrapMessageLaws.{HasEos-append, HasEos-cut, begins_cut, HoldsFed-begins, AnswersWhole-begins}
+use Rattle.ff_loop.specs.WrapPortLaws.{HoldsFed-begins, AnswersWhole-begins}
 use Rattle.ff_loop.specs.WrapTiedLaws.{IsTold, TiedWorks, TiedCut}
+
+-- no Eos stands in an open list with an Abort behind it
+pub HasEos-cut : (ms : List Message) → IsOpen ms → HasEos (ms ++ AbortMsg ∷ []) → ⊥
+HasEos-cut [] is h = h
+HasEos-cut (Item x ∷ ms) is h = HasEos-cut ms is.1 h
+HasEos-cut (Mark ∷ ms) is h = HasEos-cut ms is.1 h
+HasEos-cut (Pick w ∷ ms) is h = HasEos-cut ms is.1 h
+HasEos-cut (EosMsg ∷ ms) is h = is.0
+HasEos-cut (AbortMsg ∷ ms) is h = is.0
+
+-- what was put before an Abort is a beginning of what it would have become
+pub begins_cut : (put held : List Message) (xs : List Rec) → IsOpen put → put ++ held ≡ carried xs → BeginsWhole (unaborted (put ++ AbortMsg ∷ [])) xs
+begins_cut put held xs is e = record {
+  more = closed held;
+  is = ap (λ l. closed l) (sym e) ∙ append_assoc put held (EosMsg ∷ []) ∙ ap (λ l. l ++ closed held) (sym (unaborted-cut put is));
+}
 
 -- a message on every out stands behind what was put on each
 pub on-told : (j n : ℕ) (m : Message) (ps : List Pair) → j < n → on j (ps ++ on_outs 0 n m) ≡ on j ps ++ m ∷ []
@@ -69,7 +82,7 @@ module _ (u : WrapState) (g : List (List Message)) (ps : List Pair) where
       ends = λ k below h. absurd (no_eos k below h);
       last_open = no_eos (workers_of u.round) (omega arith);
       fed_in = λ xs goes. HoldsFed-begins (slice_index_or u.live 0 false) (at g 0) (fed (log_of u.round)) xs t.fed_in goes;
-      answers = λ j below ms goes all. AnswersWhole-begins (log_of u.round) j (part_at u j).sends (at g (suc j)) ms (t.answers j below) goes all;
+      answers = λ j below ms goes all. AnswersWhole-begins (log_of u.round) j (part_at u j).sends (at g (suc j)) ms (t.answers j below) all goes;
       telling = record {
         next = 0;
         left = suc (workers_of u.round);

@@ -18,12 +18,10 @@ use Rattle.ff_loop.specs.WrapCutLaws.{TiedCut-works, TiedCut-told}
 use Rattle.ff_loop.specs.WrapGaveLaws.{IsTold-refuses, gave-bare}
 use Rattle.ff_loop.specs.WrapGoesLaws.{pulls-tied}
 use Rattle.ff_loop.specs.WrapOpenedLaws.{IsTied-opened}
+use Rattle.ff_loop.specs.WrapShutTakesLaws.{shut-tied}
 use Rattle.ff_loop.specs.WrapTakenLaws.{cut-tied}
 use Rattle.ff_loop.specs.WrapTiedLaws.{TiedWorks, TiedCut, TiedAt, IsBare, IsTied}
 use Rattle.ff_loop.specs.WrapWorkingLaws.{length-to_ends, working-bare}
-
-shut-tied : (u : WrapState) (gots puts : List (List Message)) → IsTied u gots puts → u.mode ≡ Shut → u.held ≡ [] → (k : ℕ) (m : Message) → IsLive u.live k → IsBare (shut_takes u k m) (added gots k m) puts
-shut-tied = ?
 
 module _ (u : WrapState) (gots puts : List (List Message)) (t : IsTied u gots puts) where
   -- a message is taken

@@ -19,7 +19,7 @@ use Rattle.ff_unit.specs.Units.{TookAbort}
 use Rattle.ff_unit.specs.declared.mode.Mode.TheVariants.{Cut}
 use Rattle.ff_loop.specs.Rounds.{workers_of, log_of, IsRound, IsLogged}
 use Rattle.ff_loop.specs.WrapMasters.{WrapState, is_past, cut_takes}
-use Rattle.ff_loop.specs.WrapMessageLaws.{HasEos-append}
+use Rattle.ff_loop.specs.WrapPortLaws.{HasEos-front}
 use Rattle.ff_loop.specs.WrapTiedLaws.{TiedCut, BareAt, TiedAt, IsTied, IsBare}
 
 -- with one message more at some in, each in goes on from what it was
@@ -57,7 +57,7 @@ module _ (u : WrapState) (g : List (List Message)) (ps : List Pair) (t : TiedCut
     ends = λ i below h.
       let e = t.ends i below h in
       let longer = at-added_more g k m 0 within in
-      (subst HasEos (sym longer.1) (HasEos-append (at g 0) longer.0 e.0), e.1);
+      (subst HasEos (sym longer.1) (HasEos-front (at g 0) longer.0 e.0), e.1);
     last_open = t.last_open;
     fed_in = λ xs goes. begins-added 0 (carried (fed (log_of u.round))) (carried xs) (t.fed_in xs) goes;
     answers = λ j below ms goes all.
