@@ -11,6 +11,7 @@ pub mod WrapMasters
 pub mod Works
 -- lemmas: nothing to trust
 pub mod WorkLaws
+pub mod MasterLaws
 pub mod WorkerMarkLaws
 pub mod WorkerTakesLaws
 pub mod WorkerRunLaws
@@ -19,10 +20,23 @@ pub mod WorkerPortLaws
 pub mod WorkerLaws
 pub mod WrapTiedLaws
 pub mod WrapPortLaws
+pub mod WrapCutLaws
+pub mod WrapTakenLaws
+pub mod WrapAnswerLaws
+pub mod WrapWorksLaws
+pub mod WrapWorkerLaws
+pub mod WrapWorkingLaws
+pub mod WrapShutLaws
+pub mod WrapShutTakesLaws
+pub mod WrapNextLaws
+pub mod WrapTellsLaws
+pub mod WrapGoesLaws
+pub mod WrapGaveLaws
+pub mod WrapOpenedLaws
+pub mod WrapKeptLaws
 pub mod WrapBeginsLaws
 pub mod WrapFitsLaws
 pub mod WrapReadyLaws
 pub mod WrapAbortLaws
 pub mod WrapKindLaws
-pub mod WrapKeptLaws
 pub mod WrapMasterLaws
