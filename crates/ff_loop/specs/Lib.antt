@@ -5,7 +5,6 @@ pub mod Moves
 pub mod Masters
 pub mod Worklists
 pub mod Rounds
-pub mod WorkerSteps
 pub mod WorkerUnit
 pub mod WrapMasters
 pub mod Works
@@ -15,7 +14,6 @@ pub mod MasterLaws
 pub mod WorkerMarkLaws
 pub mod WorkerTakesLaws
 pub mod WorkerRunLaws
-pub mod WorkerKindLaws
 pub mod WorkerPortLaws
 pub mod WorkerLaws
 pub mod WrapTiedLaws

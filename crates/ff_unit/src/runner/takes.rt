@@ -1,37 +1,37 @@
-// What a worker does with the messages that it takes.
+// What a runner of a node does with the messages that it takes.
 ghost use Rattle.std.specs.Prelude.{◌≡◌, ◌⊎◌, [], ◌∷◌, None, Some};
+ghost use Rattle.std.specs.Option.{option_to_list};
 ghost use Rattle.ff_rec.specs.declared.msg.Msg.TheVariants.{Abort as AbortMsg};
 ghost use Rattle.ff_unit.specs.StageParts.{given_up};
-ghost use Rattle.ff_unit.specs.StageSteps.{GivesUp, closes, ShutTakes, CutTakes};
-ghost use Rattle.ff_loop.specs.WorkerSteps.{WorkerTakes, works_on};
+ghost use Rattle.ff_unit.specs.StageSteps.{GivesUp, works, closes, LiveTakes, ShutTakes, CutTakes, StageTakes};
 
-use super::WrapWorker;
+use super::NodeRunner;
+use crate::Mode;
 use ff_node::{Next, Node, Sends, node_end, node_step};
 use ff_port::End;
 use ff_rec::{Msg, Record};
-use ff_unit::Mode;
 
-impl<N: Node> WrapWorker<N> {
+impl<N: Node> NodeRunner<N> {
     /// Takes a message, while nothing is held.
-    pub(super) fn receive(&mut self, m: Msg<Record>)
+    pub(super) fn receive(&mut self, m: Msg<Record>, behind: Option<Msg<Record>>)
         requires held { self.old.held ≡ [] }
         requires fin { self.old.fin ≡ None }
-        ensures { WorkerTakes N.does self.old.mode self.old m self.new }
+        ensures { StageTakes N.does (option_to_list behind) self.old.mode self.old m self.new }
     {
         match self.mode {
-            Mode::Live => self.receive_live(m),
+            Mode::Live => self.receive_live(m, behind),
             Mode::Shut => self.receive_shut(m),
             Mode::Cut => self.receive_cut(m),
         }
     }
 
-    fn receive_live(&mut self, m: Msg<Record>)
+    fn receive_live(&mut self, m: Msg<Record>, behind: Option<Msg<Record>>)
         requires held { self.old.held ≡ [] }
         requires fin { self.old.fin ≡ None }
-        ensures { WorkerTakes N.does Mode.Live self.old m self.new }
+        ensures { LiveTakes N.does (option_to_list behind) self.old m self.new }
     {
         match m {
-            Msg::Item(r) => self.work(r),
+            Msg::Item(r) => self.work(r, behind),
             Msg::Mark => self.back = Some(Msg::Mark),
             Msg::Pick(_) => {}
             Msg::Eos => self.close(),
@@ -63,15 +63,16 @@ impl<N: Node> WrapWorker<N> {
         }
     }
 
-    // The node takes a task: behind its sends a Mark is held.
-    fn work(&mut self, r: Record)
+    // The node takes a record: behind its sends `behind` is held.
+    fn work(&mut self, r: Record, behind: Option<Msg<Record>>)
         requires held { self.old.held ≡ [] }
         requires fin { self.old.fin ≡ None }
-        ensures { (self.new ≡ works_on N.does self.old r) ⊎ GivesUp N.does self.old None self.new }
+        ensures { (self.new ≡ works N.does (option_to_list behind) self.old r)
+            ⊎ GivesUp N.does self.old None self.new }
     {
         let keeps = self.sends.keeps();
         match node_step(&mut self.node, r, &mut self.sends) {
-            Ok(Next::GoOn) => self.back = Some(Msg::Mark),
+            Ok(Next::GoOn) => self.back = behind,
             Ok(Next::Eos) => {
                 self.back = Some(Msg::Eos);
                 self.mode = Mode::Shut;

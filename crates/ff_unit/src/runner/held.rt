@@ -1,4 +1,4 @@
-// What a stage holds to be put.
+// What a runner of a node holds to be put.
 ghost use Rattle.std.specs.Prelude.{◌≡◌, [], ◌∷◌, None};
 ghost use Rattle.ff_unit.specs.StageParts.{held_of, TakesHeld};
 
@@ -6,7 +6,7 @@ use ff_node::Sends;
 use ff_rec::{Msg, Record};
 
 /// The first message that is held, which is taken out.
-pub fn take_held(
+pub(super) fn take_held(
     front: &mut Option<Msg<Record>>,
     sends: &mut Sends,
     back: &mut Option<Msg<Record>>,
@@ -26,7 +26,7 @@ pub fn take_held(
 }
 
 /// Drops the records that were sent.
-pub fn drop_sends(sends: &mut Sends)
+pub(super) fn drop_sends(sends: &mut Sends)
     ensures { sends.new ≡ record sends.old { sends = [] } }
 {
     while let Some(_) = sends.take_first() {}

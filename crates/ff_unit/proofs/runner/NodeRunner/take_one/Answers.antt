@@ -1,6 +1,6 @@
 use Rattle.std.proofs.Common.{refl}
 use Rattle.ff_node.specs.Runs.{Took}
-use Rattle.ff_unit.proofs.stage.Stage.take_one.Goals as goal
+use Rattle.ff_unit.proofs.runner.NodeRunner.take_one.Goals as goal
 
 pub returns-in-Some-clause-one : goal.returns-in-Some-clause-one
 returns-in-Some-clause-one g c = record {
