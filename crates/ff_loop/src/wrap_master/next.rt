@@ -6,8 +6,8 @@ ghost use Rattle.ff_loop.specs.Rounds.{workers_of, NoneToGive};
 ghost use Rattle.ff_loop.specs.WrapMasters.{IsSized, Pulls, GoesNext, FindsNext, KeepsRound, SendsNext, TellsWorkers, ReadsOn};
 
 use super::WrapMaster;
-use ff_rec::{Msg, NoMemory};
 use ff_port::End;
+use ff_rec::{Msg, NoMemory};
 use ff_unit::{Flags, Held, Last, Mode};
 
 impl WrapMaster {
