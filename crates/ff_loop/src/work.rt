@@ -21,12 +21,7 @@ pub(crate) enum Work {
 
 impl Work {
     /// No task yet, for so many workers. There may be at most `limit` tasks.
-    pub(crate) fn new(
-        alloc: Global,
-        test: Test,
-        limit: u64,
-        workers: u32,
-    ) -> Result<Work, NoMemory>
+    pub(crate) fn new(alloc: Global, test: Test, limit: u64, workers: u32) -> Result<Work, NoMemory>
         ensures { IfOk result (λ w. round_of w ≡ opened_round test limit workers) }
     {
         Ok(Work::On(Rounds::new(alloc, test, limit, workers)?))

@@ -58,12 +58,7 @@ impl Model for WrapMaster {
 impl WrapMaster {
     /// A master of so many workers. A record that a worker sends is a task where it meets the test, and else a result. There
     /// may be at most `limit` tasks.
-    pub fn new(
-        alloc: Global,
-        test: Test,
-        limit: u64,
-        workers: u32,
-    ) -> Result<WrapMaster, NoMemory>
+    pub fn new(alloc: Global, test: Test, limit: u64, workers: u32) -> Result<WrapMaster, NoMemory>
         requires some { 1 ≤ workers }
         requires few { workers ≤ 64 }
         ensures opened { IfOk result (λ m. m ≡ opened_wrap test limit workers) }

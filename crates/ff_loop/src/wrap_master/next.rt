@@ -2,12 +2,12 @@
 ghost use Rattle.std.specs.Prelude.{◌≡◌, ◌⊎◌, ◌<◌, ◌≤◌, [], suc, true, false, length, slice_index_or, IfSome, None, OnOk, OnErr};
 ghost use Rattle.ff_unit.specs.Closing.{any_live};
 ghost use Rattle.ff_unit.specs.declared.mode.Mode.TheVariants.{Live};
-ghost use Rattle.ff_loop.specs.Rounds.{workers_of, NoneToGive};
+ghost use Rattle.ff_loop.specs.Rounds.{workers_of, results_of, NoneToGive};
 ghost use Rattle.ff_loop.specs.WrapMasters.{IsSized, Pulls, GoesNext, FindsNext, KeepsRound, SendsNext, TellsWorkers, ReadsOn};
 
 use super::WrapMaster;
-use ff_rec::{Msg, NoMemory};
 use ff_port::End;
+use ff_rec::{Msg, NoMemory};
 use ff_unit::{Flags, Held, Last, Mode};
 
 impl WrapMaster {
@@ -84,7 +84,14 @@ impl WrapMaster {
     }
 
     // All was done where nothing is to be read.
-    fn read_or_tell(&mut self) {
+    fn read_or_tell(&mut self)
+        requires sized { IsSized self.old }
+        requires mode { self.old.mode ≡ Live }
+        requires held { self.old.held ≡ [] }
+        requires none_left { any_live self.old.live ≡ false → NoneToGive self.old.round }
+        requires no_result { results_of self.old.round ≡ [] }
+        ensures { TellsWorkers self.old self.new ⊎ ReadsOn self.old self.new }
+    {
         if self.live.any() {
             return;
         }
