@@ -123,9 +123,9 @@ AnswersShut-begins log j live ms whole a all goes =
     let behind = unaborted (end_by live) in (
       front.0 ++ behind,
       ap unaborted a.is
-      ∙ unaborted-append a.front (end_by live)
-      ∙ ap (λ ms. ms ++ behind) (unaborted-open a.front a.inner ∙ front.1)
-      ∙ append_assoc (grouped (got_from j log)) front.0 behind,
+          ∙ unaborted-append a.front (end_by live)
+          ∙ ap (λ ms. ms ++ behind) (unaborted-open a.front a.inner ∙ front.1)
+          ∙ append_assoc (grouped (got_from j log)) front.0 behind,
     )
 
 -- an out on which an end stands isn't to be told
