@@ -34,4 +34,9 @@ pub mod WrapGoesLaws
 pub mod WrapGaveLaws
 pub mod WrapOpenedLaws
 pub mod WrapKeptLaws
+pub mod WrapBeginsLaws
+pub mod WrapFitsLaws
+pub mod WrapReadyLaws
+pub mod WrapAbortLaws
+pub mod WrapKindLaws
 pub mod WrapMasterLaws
