@@ -1,5 +1,5 @@
 -- The master of a wrap that has done all stays tied when it takes a message.
-use Rattle.std.specs.Prelude.{◌≡◌, ◌≢◌, ◌+◌, ◌<◌, if◌then◌else◌, ℕ, suc, Bool, true, false, List, [], ◌∷◌, ◌++◌, length, slice_index_or, slice_set}
+use Rattle.std.specs.Prelude.{◌≡◌, ◌≢◌, ◌<◌, if◌then◌else◌, ℕ, suc, Bool, true, false, List, [], ◌∷◌, ◌++◌, length, slice_index_or, slice_set}
 use Rattle.std.proofs.Common.{refl, sym, ap, ◌∙◌, subst, arith, append-nil, get_or-set_same, get_or-set_other}
 use Rattle.std.proofs.lemmas.List.{map-append}
 use Rattle.ff_rec.specs.Streams.{IsOpen, IsOpenMsg, at, added, carried, closed, unaborted}
