@@ -7,8 +7,6 @@ pub mod Worklists
 pub mod Rounds
 pub mod WorkerSteps
 pub mod WorkerUnit
-pub mod WrapMasters
-pub mod Works
 -- lemmas: nothing to trust
 pub mod WorkLaws
 pub mod WorkerMarkLaws
@@ -17,5 +15,3 @@ pub mod WorkerRunLaws
 pub mod WorkerKindLaws
 pub mod WorkerPortLaws
 pub mod WorkerLaws
-pub mod WrapTiedLaws
-pub mod WrapMasterLaws

@@ -18,6 +18,9 @@ mod row_ports;
 mod schedule;
 mod unit_step;
 mod units;
+mod work;
+mod wrap_master;
+mod wraps;
 
 pub use net_unit::NetUnit;
 pub use network::NetCore;

@@ -79,6 +79,13 @@ impl<U: Unit> Core<U> {
         }
     }
 
+    /// Its units, in their order.
+    pub(crate) fn units(&self) -> &[U]
+        ensures { result.now ≡ self.now.units }
+    {
+        &self.units
+    }
+
     /// What the drainer kept.
     pub(crate) fn output(&self) -> &Records
         ensures { result.now ≡ self.now.drainer.output }

@@ -2,7 +2,7 @@
 ghost use Rattle.std.specs.Prelude.{◌≡◌, ◌≤◌, [], suc, false, replicate, IfOk};
 ghost use Rattle.ff_node.specs.Sends.{nothing_sent};
 ghost use Rattle.ff_unit.specs.Units.{Ran};
-ghost use Rattle.ff_loop.specs.WrapMasters.{opened_wrap, wrap_does};
+ghost use Rattle.ff_steps.specs.WrapMasters.{opened_wrap, wrap_does};
 
 mod next;
 mod steps;
@@ -37,8 +37,8 @@ pub struct WrapMaster {
 }
 
 impl Model for WrapMaster {
-    ghost use Rattle.ff_loop.specs.WrapMasters.{WrapState};
-    ghost use Rattle.ff_loop.specs.Works.{round_of};
+    ghost use Rattle.ff_steps.specs.WrapMasters.{WrapState};
+    ghost use Rattle.ff_steps.specs.Works.{round_of};
 
     ghost Value = { WrapState };
 
@@ -98,8 +98,8 @@ impl WrapMaster {
 }
 
 impl Unit for WrapMaster {
-    ghost use Rattle.ff_loop.specs.WrapMasterLaws.{IsUnit-wrap};
-    ghost use Rattle.ff_loop.specs.WrapMasters.{wrap_does};
+    ghost use Rattle.ff_steps.specs.WrapMasterLaws.{IsUnit-wrap};
+    ghost use Rattle.ff_steps.specs.WrapMasters.{wrap_does};
 
     ghost does = { wrap_does };
 

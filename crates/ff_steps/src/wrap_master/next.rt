@@ -3,7 +3,7 @@ ghost use Rattle.std.specs.Prelude.{◌≡◌, ◌⊎◌, ◌<◌, ◌≤◌, []
 ghost use Rattle.ff_unit.specs.Closing.{any_live};
 ghost use Rattle.ff_unit.specs.declared.mode.Mode.TheVariants.{Live};
 ghost use Rattle.ff_loop.specs.Rounds.{workers_of, NoneToGive};
-ghost use Rattle.ff_loop.specs.WrapMasters.{IsSized, Pulls, GoesNext, FindsNext, KeepsRound, SendsNext, TellsWorkers, ReadsOn};
+ghost use Rattle.ff_steps.specs.WrapMasters.{IsSized, Pulls, GoesNext, FindsNext, KeepsRound, SendsNext, TellsWorkers, ReadsOn};
 
 use super::WrapMaster;
 use ff_rec::{Msg, NoMemory};

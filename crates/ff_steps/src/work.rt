@@ -2,10 +2,10 @@
 ghost use Rattle.std.specs.Prelude.{◌≡◌, ◌<◌, ◌∷◌, length, IfOk, OnOk, OnErr};
 ghost use Rattle.ff_net.specs.Logs.{Fed, Got, given_to, got_from};
 ghost use Rattle.ff_loop.specs.Rounds.{workers_of, log_of, taken_of, IsRound, GoesRound, GivesTask, TakesOut};
-ghost use Rattle.ff_loop.specs.WrapMasters.{opened_round, is_past};
-ghost use Rattle.ff_loop.specs.Works.{round_of};
+ghost use Rattle.ff_steps.specs.WrapMasters.{opened_round, is_past};
+ghost use Rattle.ff_steps.specs.Works.{round_of};
 
-use crate::Rounds;
+use ff_loop::Rounds;
 use ff_net::Test;
 use ff_node::Sends;
 use ff_rec::{NoMemory, Record};

@@ -4,8 +4,8 @@ ghost use Rattle.ff_node.specs.Sends.{nothing_sent};
 ghost use Rattle.ff_unit.specs.Closing.{IsLive};
 ghost use Rattle.ff_unit.specs.declared.mode.Mode.TheVariants.{Live};
 ghost use Rattle.ff_loop.specs.Rounds.{workers_of};
-ghost use Rattle.ff_loop.specs.WrapMasters.{IsSized, OwesOnly, IsAnswered, WrapTakes, WorkingTakes};
-ghost use Rattle.ff_loop.specs.WrapMasters.{shut_takes, cut_takes, cut_off, spoils, to_ends};
+ghost use Rattle.ff_steps.specs.WrapMasters.{IsSized, OwesOnly, IsAnswered, WrapTakes, WorkingTakes};
+ghost use Rattle.ff_steps.specs.WrapMasters.{shut_takes, cut_takes, cut_off, spoils, to_ends};
 
 use super::WrapMaster;
 use ff_node::Sends;

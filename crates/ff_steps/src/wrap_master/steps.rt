@@ -4,7 +4,7 @@ ghost use Rattle.ff_unit.specs.Closing.{any_live};
 ghost use Rattle.ff_unit.specs.Units.{known, One, WaitsOnly, EndedOnly, StaysAt};
 ghost use Rattle.ff_unit.specs.declared.mode.Mode.TheVariants.{Live};
 ghost use Rattle.ff_loop.specs.Rounds.{workers_of};
-ghost use Rattle.ff_loop.specs.WrapMasters.{wrap_does, IsSized, OwesOnly};
+ghost use Rattle.ff_steps.specs.WrapMasters.{wrap_does, IsSized, OwesOnly};
 
 use super::WrapMaster;
 use ff_port::{Ports, Step};

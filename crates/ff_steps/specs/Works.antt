@@ -1,8 +1,8 @@
 -- The tasks of a wrap, which stay as they were where memory is refused.
 use Rattle.std.specs.Prelude.{◌≡◌, ◌⊎◌, List}
 use Rattle.ff_loop.specs.Rounds.{RoundState, log_of, taken_of, GoesRound}
-use Rattle.ff_loop.specs.declared.work.Work.{Work}
-use Rattle.ff_loop.specs.declared.work.Work.TheVariants.{On, Off}
+use Rattle.ff_steps.specs.declared.work.Work.{Work}
+use Rattle.ff_steps.specs.declared.work.Work.TheVariants.{On, Off}
 
 -- what was done: today, or before memory was refused
 abbrev pub round_of : Work → RoundState
