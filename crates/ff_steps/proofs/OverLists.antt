@@ -64,11 +64,11 @@ module _ {N : Type 0} (b : Behaviour N) (kind : KeepsKind b) (laws : IsUnit (net
   past-ended [] [] ended over = absurd (false≢true over)
   past-ended [] (u ∷ units) ended over = absurd ended
   past-ended (l ∷ ls) [] ended over = absurd ended
-  past-ended (l ∷ ls) (u ∷ units) ended over = by (over_net u) refl
+  past-ended (l ∷ ls) (u ∷ units) ended over = by (over_net u) refl (past-ended ls units ended.1)
     where
-      by : (here : Bool) → over_net u ≡ here → SomeOver m (l ∷ ls) (map log_of_net (u ∷ units))
-      by true is = inl (ended.0.past is)
-      by false is = inr (past-ended ls units ended.1 (ap (λ x. x || any_over units) (sym is) ∙ over))
+      by : (here : Bool) → over_net u ≡ here → (IsOver units → SomeOver m ls (map log_of_net units)) → SomeOver m (l ∷ ls) (map log_of_net (u ∷ units))
+      by true is rest = inl (ended.0.past is)
+      by false is rest = inr (rest (ap (λ x. x || any_over units) (sym is) ∙ over))
 
   pub calm-ended : (ls : List (Laid N)) (units : List (NetState N)) → AreEnded ls units → any_over units ≡ false → SomeOver m ls (map log_of_net units) → ⊥
   calm-ended [] [] ended none over = over

@@ -88,14 +88,14 @@ module _ {N : Type 0} (b : Behaviour N) where
   shapes-copies at t i o zero = tt
   shapes-copies at t i o (suc n) = ((refl, refl), shapes-copies at t (suc i) (suc o) n)
 
-  HasShape-route : (r : Route) (at : List ℕ) (t : Tree N) (b c m : ℕ) → InRange m → HasShape b (laid (route_kind r) (b ∷ []) (range c m) at t)
-  HasShape-route Rr at t b c m some = (refl, subst InRange (sym (length-range c m)) some)
-  HasShape-route Od at t b c m some = (refl, subst InRange (sym (length-range c m)) some)
-  HasShape-route (By f) at t b c m some = (refl, subst InRange (sym (length-range c m)) some)
+  HasShape-route : (r : Route) (at : List ℕ) (t : Tree N) (i c m : ℕ) → InRange m → HasShape b (laid (route_kind r) (i ∷ []) (range c m) at t)
+  HasShape-route Rr at t i c m some = (refl, subst InRange (sym (length-range c m)) some)
+  HasShape-route Od at t i c m some = (refl, subst InRange (sym (length-range c m)) some)
+  HasShape-route (By f) at t i c m some = (refl, subst InRange (sym (length-range c m)) some)
 
-  shapes-row_deals : (r : Route) (at : List ℕ) (t : Tree N) (m b c n : ℕ) → InRange m → AllByRecursion (HasShape b) (row_deals (route_kind r) at t m b c n)
-  shapes-row_deals r at t m b c zero some = tt
-  shapes-row_deals r at t m b c (suc n) some = (HasShape-route r at t b c m some, shapes-row_deals r at t m (suc b) (c + m) n some)
+  shapes-row_deals : (r : Route) (at : List ℕ) (t : Tree N) (m i c n : ℕ) → InRange m → AllByRecursion (HasShape b) (row_deals (route_kind r) at t m i c n)
+  shapes-row_deals r at t m i c zero some = tt
+  shapes-row_deals r at t m i c (suc n) some = (HasShape-route r at t i c m some, shapes-row_deals r at t m (suc i) (c + m) n some)
 
   shapes-column_merges : (at : List ℕ) (t : Tree N) (n m c d k : ℕ) → InRange n → AllByRecursion (HasShape b) (column_merges at t n m c d k)
   shapes-column_merges at t n m c d zero some = tt

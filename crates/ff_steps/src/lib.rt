@@ -12,6 +12,7 @@ mod net_core;
 mod net_unit;
 mod network;
 mod opening;
+mod probe;
 mod rejects;
 mod row;
 mod row_ports;
