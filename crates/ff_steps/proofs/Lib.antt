@@ -31,6 +31,7 @@ pub mod NetOpened
 pub mod NetRuns
 pub mod NetBegins
 pub mod NetEnds
+pub mod NeverOver
 pub mod NetMade
 pub mod Shapes
 pub mod PutsOpen

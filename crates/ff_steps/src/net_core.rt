@@ -81,7 +81,8 @@ impl<U: Unit> Core<U> {
 
     /// Its units, in their order.
     pub(crate) fn units(&self) -> &[U]
-        ensures { result.now ≡ self.now.units }
+        ensures units { result.now ≡ self.now.units }
+        ensures sound { IsSound U.does self.now }
     {
         &self.units
     }
