@@ -14,7 +14,7 @@ use Rattle.ff_unit.specs.Stage.{started}
 use Rattle.ff_unit.specs.Units.{Doing, Ran, RanFrom}
 use Rattle.ff_steps.specs.NetUnits.{AsStage, AsMerge, AsMaster, AsWorker, net_does, opening_net}
 use Rattle.ff_steps.specs.PlanUnits.{opened_kind, master_unit, worker_unit, IsUnrun}
-use Rattle.ff_steps.specs.WrapMasters.{opened_wrap}
+use Rattle.ff_loop.specs.WrapMasters.{opened_wrap}
 use Rattle.ff_steps.proofs.Shapes.{IsShaped, IsMasterOf, IsOneMore}
 
 -- a unit that is what it was before its first step, and has so many ins and outs

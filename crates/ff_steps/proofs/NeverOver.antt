@@ -13,7 +13,7 @@ use Rattle.ff_steps.specs.Core.{CoreState, IsSound}
 use Rattle.ff_steps.specs.NetCores.{IsNetCore}
 use Rattle.ff_steps.specs.NetUnits.{NetState, AsStage, AsDeal, AsMerge, AsOMerge, AsMaster, AsWorker, net_does, opening_net, over_net, any_over}
 use Rattle.ff_steps.specs.PlanUnits.{opened_kind, opened_unit}
-use Rattle.ff_steps.specs.WrapMasters.{WrapState}
+use Rattle.ff_loop.specs.WrapMasters.{WrapState}
 use Rattle.ff_steps.proofs.Heads.{head-same, tail-same, cons≢nil}
 
 module _ {N : Type 0} (b : Behaviour N) (m : ℕ) (keep : Bool) where

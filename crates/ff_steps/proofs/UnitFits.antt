@@ -19,7 +19,7 @@ use Rattle.ff_unit.specs.Units.{Ran}
 use Rattle.ff_steps.specs.NetUnitLaws.{Ran-over-master}
 use Rattle.ff_steps.specs.NetUnits.{NetState, AsStage, AsDeal, AsMerge, AsOMerge, AsMaster, AsWorker, net_does, opening_net, over_net, log_of_net}
 use Rattle.ff_steps.specs.PlanUnits.{opened_kind, opened_unit, master_unit}
-use Rattle.ff_steps.specs.WrapMasters.{WrapState, opened_round, is_past}
+use Rattle.ff_loop.specs.WrapMasters.{WrapState, opened_round, is_past}
 use Rattle.ff_steps.proofs.Shapes.{IsMasterOf, IsShaped, HasShape}
 use Rattle.ff_steps.proofs.StageSame.{FitsStage-same, FitsWorker-same}
 

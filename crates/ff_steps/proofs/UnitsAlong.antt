@@ -20,7 +20,7 @@ use Rattle.ff_unit.specs.Deals.{opened_deal}
 use Rattle.ff_unit.specs.Merges.{opened_merge}
 use Rattle.ff_steps.specs.NetUnits.{NetState, AsDeal, AsMerge, AsOMerge, AsMaster}
 use Rattle.ff_steps.specs.PlanUnits.{opened_unit, opened_units, units_in, units_through, stage_unit, worker_unit, times, between, dealing, group_dealing, group_order, route_dealing}
-use Rattle.ff_steps.specs.WrapMasters.{opened_wrap}
+use Rattle.ff_loop.specs.WrapMasters.{opened_wrap}
 use Rattle.ff_steps.proofs.Shapes.{length-range, length-stride, length-picked}
 
 less-one : (n : ℕ) → (n + 1) - 1 ≡ n

@@ -6,15 +6,11 @@ pub mod Events
 pub mod Moves
 pub mod Rejects
 pub mod Seen
-pub mod Works
-pub mod WrapMasters
 pub mod NetUnits
 pub mod PlanUnits
 pub mod PartViews
 pub mod OverEdges
 pub mod NetCores
 -- lemmas: nothing to trust
-pub mod WrapTiedLaws
-pub mod WrapMasterLaws
 pub mod PartLaws
 pub mod NetUnitLaws

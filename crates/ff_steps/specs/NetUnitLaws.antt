@@ -19,8 +19,8 @@ use Rattle.ff_unit.specs.Stage.{StageState}
 use Rattle.ff_unit.specs.StageLaws.{IsUnit-stage}
 use Rattle.ff_unit.specs.StageUnit.{stage_does}
 use Rattle.ff_unit.specs.Units.{IsUnit, Ran, HasRejects, TookAbort, taken_by, told_by, told_acts}
-use Rattle.ff_steps.specs.WrapMasterLaws.{IsUnit-wrap, Ran-over}
-use Rattle.ff_steps.specs.WrapMasters.{WrapState, WrapStep, wrap_does, is_past}
+use Rattle.ff_loop.specs.WrapMasterLaws.{IsUnit-wrap, Ran-over}
+use Rattle.ff_loop.specs.WrapMasters.{WrapState, WrapStep, wrap_does, is_past}
 use Rattle.ff_steps.specs.NetUnits.{NetState, AsStage, AsDeal, AsMerge, AsOMerge, AsMaster, AsWorker, NetStep, net_does, opening_net, aborted_net}
 use Rattle.ff_steps.specs.PartLaws.{HasRun-part, Leads-whole}
 

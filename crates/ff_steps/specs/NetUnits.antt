@@ -14,7 +14,7 @@ use Rattle.ff_unit.specs.Merges.{MergeState, MergeStep, merge_does, opening_merg
 use Rattle.ff_unit.specs.Stage.{StageState, opening_stage}
 use Rattle.ff_unit.specs.StageUnit.{stage_does, aborted_stage}
 use Rattle.ff_unit.specs.Units.{Doing}
-use Rattle.ff_steps.specs.WrapMasters.{WrapState, WrapStep, wrap_does, opening_wrap, aborted_wrap}
+use Rattle.ff_loop.specs.WrapMasters.{WrapState, WrapStep, wrap_does, opening_wrap, aborted_wrap}
 
 -- a stage and a worker run their nodes as one
 pub data NetState (N : Type 0) : Type 0 where

@@ -22,7 +22,7 @@ use Rattle.ff_unit.specs.Units.{Doing, Ran}
 use Rattle.ff_unit.specs.declared.dealing.Dealing.{Dealing}
 use Rattle.ff_unit.specs.declared.dealing.Dealing.TheVariants.{InTurn, OnDemand, ByKey, GroupsInTurn, GroupsOnDemand}
 use Rattle.ff_steps.specs.NetUnits.{NetState, AsStage, AsDeal, AsMerge, AsOMerge, AsMaster, AsWorker}
-use Rattle.ff_steps.specs.WrapMasters.{opened_wrap}
+use Rattle.ff_loop.specs.WrapMasters.{opened_wrap}
 
 -- the stage of a leaf or a comb
 abbrev pub stage_unit : {N : Type 0} → Behaviour N → Bool → Tree N → NetState N

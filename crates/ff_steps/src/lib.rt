@@ -12,15 +12,12 @@ mod net_core;
 mod net_unit;
 mod network;
 mod opening;
-mod probe;
 mod rejects;
 mod row;
 mod row_ports;
 mod schedule;
 mod unit_step;
 mod units;
-mod work;
-mod wrap_master;
 mod wraps;
 
 pub use net_unit::NetUnit;

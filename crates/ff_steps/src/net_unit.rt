@@ -2,8 +2,7 @@
 ghost use Rattle.std.specs.Prelude.{◌≡◌};
 ghost use Rattle.ff_steps.specs.NetUnits.{AsStage, AsDeal, AsMerge, AsOMerge, AsMaster, AsWorker, over_net};
 
-use crate::wrap_master::WrapMaster;
-use ff_loop::WrapWorker;
+use ff_loop::{WrapMaster, WrapWorker};
 use ff_node::{Comb, Node};
 use ff_order::{ODeal, OMerge};
 use ff_port::{End, Ports, Step};

@@ -5,8 +5,7 @@ ghost use Rattle.ff_net.specs.Tree.{tree_of, Wrap};
 ghost use Rattle.ff_steps.specs.PlanUnits.{units_in, worker_unit, times};
 
 use crate::NetUnit;
-use crate::wrap_master::WrapMaster;
-use ff_loop::WrapWorker;
+use ff_loop::{WrapMaster, WrapWorker};
 use ff_net::{Net, Test};
 use ff_node::{Comb, Node};
 use ff_rec::NoMemory;

@@ -168,7 +168,7 @@ pub record IsUnit {U : Type 0} (d : Doing U) : Type 0 where
   pub ready : (u : U) (gots puts : List (List Message)) → Ran d u gots puts → d.Ready u gots puts
   -- one that has ended has decided how
   pub ends : (u : U) (gots puts : List (List Message)) → Ran d u gots puts → d.done u ≡ true → IsSome (d.fin u)
-  -- what its ports saw is the beginning of lists that it fits, and where it ended by Eos they are whole
+  -- its ports saw what they may at any moment, and where it ended by Eos, whole lists that it fits
   pub begins : (u : U) (gots puts : List (List Message)) → Ran d u gots puts → d.Begins u gots puts
   pub whole : (u : U) (gots puts : List (List Message)) → Ran d u gots puts → d.done u ≡ true → d.fin u ≡ Some Eos
       → FitsWhole (d.Fits u) gots puts

@@ -60,7 +60,7 @@ pub trait Unit: Drop {
         ensures told { does.told self.new ≡ does.told self.old }
         ensures link { P.link ports.new ≡ P.link ports.old }
 
-        // What the ports saw is the beginning of lists that it fits, and where it ended by Eos they are whole.
+        // The ports saw what they may at any moment, and where it ended by Eos, whole lists that it fits.
         ensures begins { does.Begins self.new (P.gots ports.new) (P.puts ports.new) }
         ensures fits { result ≡ Step.Ended End.Eos
             → FitsWhole (does.Fits self.new) (P.gots ports.new) (P.puts ports.new) }
