@@ -35,6 +35,7 @@ pub mod NeverOver
 pub mod NetMade
 pub mod Shapes
 pub mod PutsOpen
+pub mod LogFits
 pub mod UnitFits
 pub mod UnitRejects
 pub mod FreshUnits

@@ -7,6 +7,7 @@ mod seen;
 mod sieve;
 mod stages;
 mod units;
+mod wrap_nets;
 mod wraps;
 
 use crate::NetCore;

@@ -1,10 +1,10 @@
 // Many random schedules of networks with feedback.
 use super::doubling::Doubling;
+use super::records;
 use super::seen::{output, random, rejects};
-use super::{record, records};
+use super::wrap_nets::{Form, network};
 use crate::NetCore;
-use ff_net::{Net, Test, Version, check};
-use ff_node::Cmp;
+use ff_net::{Version, check};
 use std::alloc::Global;
 use std::process::Abort;
 use std::test::Fail;
@@ -19,19 +19,6 @@ const OUTPUT_BYTES: &[u8] = b"\n\n\n\n\n\n\n\n\n\n\n\n\naaaaaaaaaaaab";
 
 const REJECTS: &[u8] = b"7\n";
 
-// Networks with a wrap.
-#[derive(Clone, Copy, Debug)]
-enum Form {
-    // A wrap of so many workers.
-    Alone(u32),
-    // One of two workers between two nodes that send all on.
-    Between,
-    // A node that gives up at "3" before one of two workers.
-    Broken,
-    // One of two workers that give up at "1".
-    Weak,
-}
-
 // A run: the network, the capacity of its queues, its task limit, and where its random numbers start.
 #[derive(Clone, Copy, Debug)]
 struct Run {
@@ -41,77 +28,11 @@ struct Run {
     seed: u32,
 }
 
-fn is(value: i64) -> Test {
-    Test {
-        field: 1,
-        cmp: Cmp::Eq,
-        value,
-    }
-}
-
-// A node that sends this twice for that number and everything else on.
-fn doubling(alloc: Global, from: i64, to: &[u8]) -> Result<Doubling, Fail> {
-    Ok(Doubling {
-        from: is(from),
-        to: record(alloc, to)?,
-        rejects: false,
-        gives_up: false,
-    })
-}
-
-// A node that gives up at this number, and sends everything else on.
-fn giving_up(alloc: Global, at: i64) -> Result<Net<Doubling>, Fail> {
-    let node = doubling(alloc, at, b"?")?;
-    Ok(Net::Leaf(Doubling {
-        gives_up: true,
-        ..node
-    }))
-}
-
-// A wrap whose workers are these nodes before those that double; each record of a number above 0 is a task.
-fn wrap(alloc: Global, workers: u32, first: Net<Doubling>) -> Result<Net<Doubling>, Fail> {
-    let rejecting = Doubling {
-        rejects: true,
-        ..doubling(alloc, 7, b"?")?
-    };
-    let ones = Net::Leaf(doubling(alloc, 1, b"a")?);
-    let threes = Net::Leaf(doubling(alloc, 3, b"1")?);
-    let fives = Net::Leaf(doubling(alloc, 5, b"3")?);
-    let worker = Net::Comb(vec![in alloc; first, Net::Leaf(rejecting), ones, threes, fives]?);
-    Ok(Net::Wrap {
-        workers,
-        worker: Box::new(alloc, worker)?,
-        test: Test {
-            field: 1,
-            cmp: Cmp::Gt,
-            value: 0,
-        },
-    })
-}
-
-// A node that sends all on.
-fn still(alloc: Global) -> Result<Net<Doubling>, Fail> {
-    Ok(Net::Leaf(doubling(alloc, 99, b"?")?))
-}
-
-fn network(alloc: Global, form: Form) -> Result<Net<Doubling>, Fail> {
-    Ok(match form {
-        Form::Alone(workers) => wrap(alloc, workers, still(alloc)?)?,
-        Form::Between => {
-            let middle = wrap(alloc, 2, still(alloc)?)?;
-            Net::Pipe(vec![in alloc; still(alloc)?, middle, still(alloc)?]?)
-        }
-        Form::Broken => {
-            let last = wrap(alloc, 2, still(alloc)?)?;
-            Net::Pipe(vec![in alloc; giving_up(alloc, 3)?, last]?)
-        }
-        Form::Weak => wrap(alloc, 2, giving_up(alloc, 1)?)?,
-    })
-}
-
 // The core of a network before its first event.
 fn opened(rt: &impl Abort, alloc: Global, run: Run) -> Result<NetCore<Doubling>, Fail> {
-    let checked = check(network(alloc, run.form)?, Version::Two).ok().ok_or("refused")?;
+    let checked = check(network(alloc, run.form)?, Version::Two)
+        .ok()
+        .ok_or("refused")?;
     assert!(rt; 1 <= run.cap && run.cap <= 4096);
     let input = records(alloc, INPUT)?;
     Ok(NetCore::new(alloc, checked, run.cap, run.limit, true, input)?)
