@@ -29,10 +29,10 @@ impl Node for Narrow {
     fn svc_init(&mut self) {}
 
     fn svc(&mut self, r: Record, out: &mut Sends) -> Result<Next, NoMemory> {
-        if r.len() <= self.most {
-            out.send(r)?;
-        } else {
+        if r.len() > self.most {
             out.reject(r)?;
+        } else {
+            out.send(r)?;
         }
         Ok(Next::GoOn)
     }

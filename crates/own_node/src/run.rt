@@ -22,13 +22,7 @@ pub fn widest_line<
     I: Source,
     O: Sink,
     S: Spawner<NetJob<NetUnit<Own>, R>>,
->(
-    rt: &R,
-    alloc: Global,
-    source: &mut I,
-    sink: &mut O,
-    spawner: &mut S,
-) -> Result<Ending, NetFault>
+>(rt: &R, alloc: Global, source: &mut I, sink: &mut O, spawner: &mut S) -> Result<Ending, NetFault>
     ensures { (limit : ℕ) → NetRan (job own_node own_net Version.Two limit false)
         (streams I.left I.ended I.faults O.taken source.old source.new sink.old sink.new) result }
 {
