@@ -1,5 +1,5 @@
 // The ports of a wrap's master, behind which a test plays the workers and whoever feeds it.
-ghost use Rattle.std.specs.Prelude.{◌≡◌, ◌<◌, [], true, length, replicate, IfOk};
+ghost use Rattle.std.specs.Prelude.{◌≡◌, ◌<◌, [], suc, true, length, replicate, IfOk};
 ghost use Rattle.ff_rec.specs.Streams.{IsOpen};
 ghost use Rattle.ff_port.specs.Ends.{at, OthersStay, PutsAt};
 ghost use Rattle.ff_test_ports.specs.Fickle.{nothing_at};
@@ -34,8 +34,8 @@ impl Players {
         answers: &'static str,
     ) -> Result<Players, Fail>
         requires { workers < 1000 }
-        ensures gots { IfOk result (λ p. p.got.items ≡ replicate (workers + 1) []) }
-        ensures puts { IfOk result (λ p. p.put.items ≡ replicate (workers + 1) []) }
+        ensures gots { IfOk result (λ p. p.got.items ≡ replicate (suc workers) []) }
+        ensures puts { IfOk result (λ p. p.put.items ≡ replicate (suc workers) []) }
     {
         let mut coming = Vec::new(alloc);
         let mut seen = Vec::new(alloc);
@@ -62,21 +62,6 @@ impl Players {
             all.push(' ')?;
         }
         Ok(all)
-    }
-
-    // Notes a message at out `k`, and sends what its worker answers.
-    fn play(&mut self, k: usize, m: &Msg<Record>) -> Result<(), AllocError>
-        ensures gots { self.new.got ≡ self.old.got }
-        ensures puts { self.new.put ≡ self.old.put }
-    {
-        let letter = letter_of(m);
-        if let Some(script) = self.seen.get_mut(k) {
-            script.push_str(letter)?;
-        }
-        if k + 1 < self.seen.len() {
-            send(&mut self.coming, k + 1, answer(self.answers, letter))?;
-        }
-        Ok(())
     }
 }
 
@@ -125,6 +110,31 @@ fn letter_of(m: &Msg<Record>) -> &str {
     }
 }
 
+// Notes a message at out `k`, and sends what its worker answers.
+fn play(
+    seen: &mut Vec<String>,
+    coming: &mut Vec<VecDeque<u8>>,
+    answers: &'static str,
+    k: usize,
+    m: &Msg<Record>,
+) -> Result<(), AllocError> {
+    let letter = letter_of(m);
+    if let Some(script) = seen.get_mut(k) {
+        script.push_str(letter)?;
+    }
+    let worker = k.saturating_add(1);
+    if worker < seen.len() {
+        send(coming, worker, answer(answers, letter))?;
+    }
+    Ok(())
+}
+
+// What comes next at in `k`.
+fn next_at(alloc: Global, coming: &mut Vec<VecDeque<u8>>, k: usize) -> Option<Msg<Record>> {
+    let letter = coming.get_mut(k)?.pop_front()?;
+    message_of(alloc, letter)
+}
+
 fn message_of(alloc: Global, letter: u8) -> Option<Msg<Record>> {
     Some(match letter {
         b'|' => Msg::Mark,
@@ -169,10 +179,13 @@ impl Ports<Record> for Players {
     }
 
     fn try_take(&mut self, k: usize) -> Option<Msg<Record>> {
-        let letter = self.coming.get_mut(k)?.pop_front()?;
-        let m = message_of(self.alloc, letter)?;
-        self.got[k].note(&m);
-        Some(m)
+        match next_at(self.alloc, &mut self.coming, k) {
+            None => None,
+            Some(m) => {
+                self.got[k].note(&m);
+                Some(m)
+            }
+        }
     }
 
     fn try_put(&mut self, k: usize, m: Msg<Record>) -> Put<Record>
@@ -184,7 +197,7 @@ impl Ports<Record> for Players {
         ensures gots { self.new.got.items ≡ self.old.got.items }
         ensures knowns { nothing_at self.new.got.items ≡ nothing_at self.old.got.items }
     {
-        if self.play(k, &m).is_err() {
+        if play(&mut self.seen, &mut self.coming, self.answers, k, &m).is_err() {
             return Put::Full(m);
         }
         self.put[k].note(&m);

@@ -67,19 +67,31 @@ fn puts(
     let (fed, answers) = (case.fed, case.answers);
     let mut came = Vec::new(alloc);
     for seed in 1..=ORDERS {
-        let played = play(alloc, case, seed, u32::MAX)?;
-        let put = played.put.as_str();
-        assert_eq!(rt; played.end, Some(end), "{fed} {answers} {seed} {put}");
-        assert_eq!(rt; played.over, over, "{fed} {answers} {seed}: {put}");
-        assert!(rt; wanted.contains(&put), "{fed} {answers} {seed}: {put}");
-        let Played { put, .. } = played;
+        let Played {
+            put,
+            end: ended,
+            over: is_over,
+        } = play(alloc, case, seed, u32::MAX)?;
+        assert_eq!(rt;
+            (ended, is_over),
+            (Some(end), over),
+            "{fed} {answers} {seed}: {put}"
+        );
+        assert!(rt; is_wanted(wanted, &put), "{fed} {answers} {seed}: {put}");
         came.push(put)?;
     }
     for one in wanted {
-        let comes = came.iter().any(|put| put.as_str() == *one);
-        assert!(rt; comes, "{fed} {answers}: never {one}");
+        assert!(rt; comes(&came, one), "{fed} {answers}: never {one}");
     }
     Ok(())
+}
+
+fn is_wanted(wanted: &[&str], put: &str) -> bool {
+    wanted.iter().any(|one| *one == put)
+}
+
+fn comes(came: &[String], wanted: &str) -> bool {
+    came.iter().any(|put| put.as_str() == wanted)
 }
 
 // One worker: what it is given, and then the results.
