@@ -1,6 +1,6 @@
 -- What a master goes on to next. In these lemmas `u` is the state as its fields show it.
 use Rattle.std.specs.Prelude.{Result, Ok, Err, OnErr}
-use Rattle.std.proofs.Common.{◌≡◌, ℕ, suc, Bool, true, false, List, [], ◌∷◌, length, slice_set, refl, sym, ap, ap₂, subst, ◌∙◌}
+use Rattle.std.proofs.Common.{◌≡◌, ℕ, Bool, true, false, List, [], length, slice_set, refl, sym, ap, ap₂, subst, ◌∙◌}
 use Rattle.ff_rec.specs.declared.msg.Msg.TheVariants.{Eos as EosMsg}
 use Rattle.ff_node.specs.Runs.{Message}
 use Rattle.ff_unit.specs.Closing.{any_live, all_live}

@@ -1,6 +1,5 @@
 -- The tasks of a wrap, which stay as they were where memory is refused.
-use Rattle.std.specs.Prelude.{◌≡◌, ◌⊎◌, List}
-use Rattle.ff_loop.specs.Rounds.{RoundState, log_of, taken_of, GoesRound}
+use Rattle.ff_loop.specs.Rounds.{RoundState}
 use Rattle.ff_loop.specs.declared.work.Work.{Work}
 use Rattle.ff_loop.specs.declared.work.Work.TheVariants.{On, Off}
 

@@ -1,6 +1,5 @@
 -- What was taken at the in of a worker, with one message more.
-use Rattle.std.specs.Prelude.{◌≡◌, ◌==◌, ℕ, Bool, true, false, List, [], ◌∷◌, ◌++◌}
-use Rattle.std.specs.List.{AllByRecursion}
+use Rattle.std.specs.Prelude.{◌≡◌, ◌==◌, ℕ, true, false, List, [], ◌∷◌, ◌++◌}
 use Rattle.std.proofs.Common.{refl, sym, ap, ◌∙◌, ⊎_elim, append-nil, append_assoc, cond}
 use Rattle.std.proofs.lemmas.Bool.{eq-eqb}
 use Rattle.std.proofs.lemmas.Bool.Decides.{eqb_tells}
@@ -38,7 +37,7 @@ module _ (log : List Event) (j : ℕ) (part : List Rec) (ms : List Message) (a :
   AnswersWhole-item x = record {
     inner = IsOpen-append ms (Item x ∷ []) a.inner (tt, tt);
     answers = λ all.
-      ap (λ l. l ++ Item x ∷ []) (a.answers (AllByRecursion-front IsItemOrMark ms (Item x ∷ []) all))
+        ap (λ l. l ++ Item x ∷ []) (a.answers (AllByRecursion-front IsItemOrMark ms (Item x ∷ []) all))
         ∙ append_assoc (grouped (got_from j log)) (carried part) (Item x ∷ [])
         ∙ ap (λ l. grouped (got_from j log) ++ l) (sym (map-append (λ y. Item y) part (x ∷ [])));
   }
@@ -48,7 +47,7 @@ module _ (log : List Event) (j : ℕ) (part : List Rec) (ms : List Message) (a :
   AnswersWhole-mark log' got = record {
     inner = IsOpen-append ms (Mark ∷ []) a.inner (tt, tt);
     answers = λ all.
-      ap (λ l. l ++ Mark ∷ []) (a.answers (AllByRecursion-front IsItemOrMark ms (Mark ∷ []) all))
+        ap (λ l. l ++ Mark ∷ []) (a.answers (AllByRecursion-front IsItemOrMark ms (Mark ∷ []) all))
         ∙ append_assoc (grouped (got_from j log)) (carried part) (Mark ∷ [])
         ∙ sym (grouped-push (got_from j log) part)
         ∙ ap (λ l. grouped l) (sym got)
@@ -77,8 +76,8 @@ module _ (log : List Event) (j : ℕ) (ms : List Message) (a : AnswersShut log j
     is = ap (λ l. l ++ m ∷ []) (a.is ∙ append-nil a.front) ∙ sym (append-nil (a.front ++ m ∷ []));
     inner = IsOpen-append a.front (m ∷ []) a.inner (is, tt);
     answers = λ all.
-      let rest = a.answers (AllByRecursion-front IsItemOrMark a.front (m ∷ []) all) in
-      (rest.0 ++ m ∷ [], ap (λ l. l ++ m ∷ []) rest.1 ∙ append_assoc (grouped (got_from j log)) rest.0 (m ∷ []));
+        let rest = a.answers (AllByRecursion-front IsItemOrMark a.front (m ∷ []) all) in
+        (rest.0 ++ m ∷ [], ap (λ l. l ++ m ∷ []) rest.1 ∙ append_assoc (grouped (got_from j log)) rest.0 (m ∷ []));
   }
 
   pub AnswersShut-ends : AnswersShut log j false (ms ++ Eos ∷ [])

@@ -1,25 +1,23 @@
 -- The master of a wrap that is cut off, and what it takes afterwards.
-use Rattle.std.specs.Prelude.{◌≡◌, ◌≢◌, ◌⊎◌, ◌+◌, ◌<◌, ◌≤◌, ℕ, zero, suc, Bool, true, false, List, [], ◌∷◌, ◌++◌, length, slice_index_or}
-use Rattle.std.specs.List.{AllByRecursion}
-use Rattle.std.proofs.Common.{refl, sym, ap, ◌∙◌, subst, arith, append_assoc, inl, inr}
+use Rattle.std.specs.Prelude.{◌≡◌, ◌≢◌, ◌+◌, ◌<◌, ◌≤◌, ℕ, suc, Bool, true, false, List, [], ◌∷◌, ◌++◌, length, slice_index_or}
+use Rattle.std.proofs.Common.{refl, sym, ap, ◌∙◌, subst, arith, append_assoc}
 use Rattle.std.proofs.lemmas.List.{map-append}
 use Rattle.ff_rec.specs.Lines.{Rec}
-use Rattle.ff_rec.specs.Streams.{IsOpen, GoesOn, at, carried, closed, unaborted}
+use Rattle.ff_rec.specs.Streams.{IsOpen, at, carried, closed, unaborted}
 use Rattle.ff_rec.specs.declared.msg.Msg.TheVariants.{Item, Mark, Pick, Eos as EosMsg, Abort as AbortMsg}
-use Rattle.ff_net.specs.Logs.{HasEos, BeginsWhole, came, came_out, fed, given_to, got_from}
-use Rattle.ff_node.specs.Fits.{IsItemOrMark, grouped}
+use Rattle.ff_net.specs.Logs.{HasEos, BeginsWhole, came, came_out, fed, given_to}
 use Rattle.ff_node.specs.Runs.{Message}
 use Rattle.ff_node.specs.Sends.{Sent}
 use Rattle.ff_port.specs.declared.answers.End.{End}
 use Rattle.ff_port.specs.declared.answers.End.TheVariants.{Eos, Abort}
-use Rattle.ff_unit.specs.DealPairLaws.{Pair, on, on-append, on-on_outs, IsOpen-on, AreInner, IsInner, AllByRecursion-front}
+use Rattle.ff_unit.specs.DealPairLaws.{Pair, on, on-append, on-on_outs, IsOpen-on, IsInner, AllByRecursion-front}
 use Rattle.ff_unit.specs.Deals.{on_outs}
 use Rattle.ff_unit.specs.MessageLaws.{unaborted-cut}
 use Rattle.ff_unit.specs.declared.mode.Mode.TheVariants.{Cut}
 use Rattle.ff_loop.specs.Rounds.{test_of, limit_of, workers_of, log_of, taken_of, results_of, IsLogged}
 use Rattle.ff_loop.specs.WrapMasters.{WrapState, cut_off, part_at}
 use Rattle.ff_loop.specs.WrapPortLaws.{HoldsFed-begins, AnswersWhole-begins}
-use Rattle.ff_loop.specs.WrapTiedLaws.{IsTold, TiedWorks, TiedCut}
+use Rattle.ff_loop.specs.WrapTiedLaws.{TiedWorks, TiedCut}
 
 -- no Eos stands in an open list with an Abort behind it
 pub HasEos-cut : (ms : List Message) → IsOpen ms → HasEos (ms ++ AbortMsg ∷ []) → ⊥
@@ -75,8 +73,8 @@ module _ (u : WrapState) (g : List (List Message)) (ps : List Pair) where
     TiedCut-cut w short = record {
       end = short;
       tasks = λ j below.
-        let within : j < suc (workers_of u.round) = omega (arith, below) in
-        subst (λ l. BeginsWhole (unaborted l) (given_to j (log_of u.round))) (sym (cut_at j within))
+          let within : j < suc (workers_of u.round) = omega (arith, below) in
+          subst (λ l. BeginsWhole (unaborted l) (given_to j (log_of u.round))) (sym (cut_at j within))
           (begins_cut (on j ps) (on j u.held) (given_to j (log_of u.round)) (put_open j) (sym (on-append j ps u.held) ∙ t.tasks j below));
       results = results_begin;
       ends = λ k below h. absurd (no_eos k below h);

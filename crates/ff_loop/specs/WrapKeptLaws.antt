@@ -13,7 +13,7 @@ use Rattle.ff_unit.specs.RunLaws.{HasRun-keeps}
 use Rattle.ff_unit.specs.declared.mode.Mode.{Mode}
 use Rattle.ff_unit.specs.declared.mode.Mode.TheVariants.{Live, Shut, Cut}
 use Rattle.ff_loop.specs.Rounds.{test_of, limit_of, workers_of}
-use Rattle.ff_loop.specs.WrapMasters.{WrapState, WrapStep, WrapTakes, WorkingTakes, shut_takes, cut_off, to_ends, opening_wrap}
+use Rattle.ff_loop.specs.WrapMasters.{WrapState, WrapStep, WrapTakes, cut_off, to_ends, opening_wrap}
 use Rattle.ff_loop.specs.WrapCutLaws.{TiedCut-works, TiedCut-told}
 use Rattle.ff_loop.specs.WrapGaveLaws.{IsTold-refuses, gave-bare}
 use Rattle.ff_loop.specs.WrapGoesLaws.{pulls-tied}

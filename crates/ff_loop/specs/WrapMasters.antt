@@ -2,14 +2,14 @@
 use Rattle.std.specs.Prelude.{◌≡◌, ◌≢◌, ◌⊎◌, ◌+◌, ◌<◌, ◌≤◌, nat_lt, ℕ, zero, suc, Bool, true, false, if◌then◌else◌, List, [], ◌∷◌, ◌++◌, length, replicate, slice_index, slice_index_or, slice_set, None, Some}
 use Rattle.ff_rec.specs.Lines.{Rec}
 use Rattle.ff_rec.specs.declared.msg.Msg.TheVariants.{Item, Mark, Pick, Eos as EosMsg, Abort as AbortMsg}
-use Rattle.ff_net.specs.Logs.{Event, FitsMaster, BeginsMaster, came, given_to, got_from}
+use Rattle.ff_net.specs.Logs.{FitsMaster, BeginsMaster, came, given_to, got_from}
 use Rattle.ff_net.specs.Logs.{Fed as EventFed, Got as EventGot}
 use Rattle.ff_net.specs.declared.net.Test.{Test}
 use Rattle.ff_node.specs.Runs.{Message, Act, Took, Gave, Refused, Idle, Told, Handed}
 use Rattle.ff_node.specs.Sends.{Sent, add, nothing_sent}
 use Rattle.ff_port.specs.declared.answers.End.{End}
 use Rattle.ff_port.specs.declared.answers.End.TheVariants.{Eos, Abort, Memory}
-use Rattle.ff_unit.specs.Closing.{IsLive, any_live, all_live, none_live, decided, AllDry, no_rejects}
+use Rattle.ff_unit.specs.Closing.{IsLive, any_live, all_live, none_live, decided, AllDry}
 use Rattle.ff_unit.specs.Deals.{on_outs, AreOpenOuts, MayBeRefused}
 use Rattle.ff_unit.specs.Units.{Doing, Known}
 use Rattle.ff_unit.specs.declared.mode.Mode.{Mode}

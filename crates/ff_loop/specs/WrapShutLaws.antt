@@ -1,19 +1,18 @@
 -- The master of a wrap that has done all stays tied when it takes a message.
-use Rattle.std.specs.Prelude.{◌≡◌, ◌≢◌, ◌⊎◌, ◌+◌, ◌<◌, ◌≤◌, if◌then◌else◌, ℕ, zero, suc, Bool, true, false, List, [], ◌∷◌, ◌++◌, length, slice_index_or, slice_set}
-use Rattle.std.proofs.Common.{refl, sym, ap, ◌∙◌, subst, arith, append-nil, append_assoc, get_or-set_same, get_or-set_other, length-set, inl, inr}
-use Rattle.std.proofs.lemmas.Bool.{false≢true}
+use Rattle.std.specs.Prelude.{◌≡◌, ◌≢◌, ◌<◌, if◌then◌else◌, ℕ, suc, Bool, true, false, List, [], ◌∷◌, ◌++◌, length, slice_index_or, slice_set}
+use Rattle.std.proofs.Common.{refl, sym, ap, ◌∙◌, subst, arith, append-nil, get_or-set_same, get_or-set_other}
 use Rattle.std.proofs.lemmas.List.{map-append}
 use Rattle.ff_rec.specs.Streams.{IsOpen, IsOpenMsg, at, added, carried, closed, unaborted}
-use Rattle.ff_rec.specs.declared.msg.Msg.TheVariants.{Item, Mark, Pick, Eos as EosMsg, Abort as AbortMsg}
-use Rattle.ff_net.specs.Logs.{HasEos, BeginsWhole, came, came_out, fed, given_to}
+use Rattle.ff_rec.specs.declared.msg.Msg.TheVariants.{Item, Eos as EosMsg, Abort as AbortMsg}
+use Rattle.ff_net.specs.Logs.{HasEos, BeginsWhole, came_out, fed, given_to}
 use Rattle.ff_node.specs.Runs.{Message}
-use Rattle.ff_port.specs.declared.answers.End.TheVariants.{Eos, Abort}
+use Rattle.ff_port.specs.declared.answers.End.TheVariants.{Eos}
 use Rattle.ff_unit.specs.Closing.{IsLive, any_live}
 use Rattle.ff_unit.specs.DealPairLaws.{Pair, on, on-append, on-own, on-other}
-use Rattle.ff_unit.specs.FlagLaws.{IsLive-within, any_live-at}
+use Rattle.ff_unit.specs.FlagLaws.{IsLive-within}
 use Rattle.ff_unit.specs.MessageLaws.{IsOpen-carried}
 use Rattle.ff_unit.specs.TakenLaws.{at-added, at-added_other}
-use Rattle.ff_loop.specs.Rounds.{test_of, limit_of, workers_of, log_of, taken_of, results_of, IsLogged}
+use Rattle.ff_loop.specs.Rounds.{test_of, workers_of, log_of, taken_of, results_of, IsLogged}
 use Rattle.ff_loop.specs.WrapAnswerLaws.{AnswersShut-more, AnswersShut-ends}
 use Rattle.ff_loop.specs.WrapCutLaws.{HasEos-cut, begins_cut}
 use Rattle.ff_loop.specs.WrapMasters.{WrapState, closes_last}
@@ -46,8 +45,8 @@ module _ (u : WrapState) (g : List (List Message)) (ps : List Pair) (t : TiedShu
     within = omega arith;
     are = refl;
     inner = λ j from below.
-      let same : workers_of u.round ≡ j = omega (arith, from, below) in
-      subst (λ i. IsOpen (on i ps)) same (subst IsOpen (sym put_last) (IsOpen-carried (taken_of u.round)));
+        let same : workers_of u.round ≡ j = omega (arith, from, below) in
+        subst (λ i. IsOpen (on i ps)) same (subst IsOpen (sym put_last) (IsOpen-carried (taken_of u.round)));
   }
 
   -- what goes to the workers stays, where nothing is held for them
@@ -60,23 +59,23 @@ module _ (u : WrapState) (g : List (List Message)) (ps : List Pair) (t : TiedShu
   TiedCut-shut logged w short = record {
     end = short;
     tasks = λ j below.
-      BeginsWhole-ended false (on j (ps ++ (workers_of u.round, AbortMsg) ∷ [])) (given_to j (log_of u.round))
+        BeginsWhole-ended false (on j (ps ++ (workers_of u.round, AbortMsg) ∷ [])) (given_to j (log_of u.round))
         (others_put ((workers_of u.round, AbortMsg) ∷ []) j below (last_other AbortMsg j below));
     results = λ few.
-      let all : taken_of u.round ++ results_of u.round ≡ came_out (test_of u.round) (log_of u.round) = logged.results few in
-      subst (λ l. BeginsWhole (unaborted l) (came_out (test_of u.round) (log_of u.round))) (sym (last_own AbortMsg))
-      (begins_cut (on (workers_of u.round) ps) (carried (results_of u.round)) (came_out (test_of u.round) (log_of u.round))
-      (subst IsOpen (sym put_last) (IsOpen-carried (taken_of u.round)))
-      (ap (λ l. l ++ carried (results_of u.round)) put_last ∙ sym (map-append (λ x. Item x) (taken_of u.round) (results_of u.round)) ∙ ap (λ l. carried l) all));
+        let all : taken_of u.round ++ results_of u.round ≡ came_out (test_of u.round) (log_of u.round) = logged.results few in
+        subst (λ l. BeginsWhole (unaborted l) (came_out (test_of u.round) (log_of u.round))) (sym (last_own AbortMsg))
+        (begins_cut (on (workers_of u.round) ps) (carried (results_of u.round)) (came_out (test_of u.round) (log_of u.round))
+        (subst IsOpen (sym put_last) (IsOpen-carried (taken_of u.round)))
+        (ap (λ l. l ++ carried (results_of u.round)) put_last ∙ sym (map-append (λ x. Item x) (taken_of u.round) (results_of u.round)) ∙ ap (λ l. carried l) all));
     ends = λ k below h. (
       subst HasEos (sym t.fed_in.1) (HasEos-closed t.fed_in.0),
       record { all_given = record { by = λ f. omega (arith, logged.given_came.by f, t.none_left.by f) }; all_got = t.all_got },
     );
     last_open = λ h.
-      HasEos-cut (on (workers_of u.round) ps) (subst IsOpen (sym put_last) (IsOpen-carried (taken_of u.round))) (subst HasEos (last_own AbortMsg) h);
+        HasEos-cut (on (workers_of u.round) ps) (subst IsOpen (sym put_last) (IsOpen-carried (taken_of u.round))) (subst HasEos (last_own AbortMsg) h);
     fed_in = λ xs goes. HoldsFed-begins false (at g 0) (fed (log_of u.round)) xs t.fed_in goes;
     answers = λ j below ms goes all.
-      AnswersShut-begins (log_of u.round) j (slice_index_or u.live (suc j) false) (at g (suc j)) ms (t.answers j below) all goes;
+        AnswersShut-begins (log_of u.round) j (slice_index_or u.live (suc j) false) (at g (suc j)) ms (t.answers j below) all goes;
     telling = last_told AbortMsg;
   }
 

@@ -10,7 +10,7 @@ use Rattle.ff_unit.specs.Closing.{IsLive, any_live}
 use Rattle.ff_unit.specs.DealPairLaws.{Pair}
 use Rattle.ff_unit.specs.FlagLaws.{IsLive-within, any_live-at}
 use Rattle.ff_unit.specs.TakenLaws.{TookAbort-abort}
-use Rattle.ff_unit.specs.declared.mode.Mode.TheVariants.{Shut, Cut}
+use Rattle.ff_unit.specs.declared.mode.Mode.TheVariants.{Shut}
 use Rattle.ff_loop.specs.Rounds.{workers_of}
 use Rattle.ff_loop.specs.WrapMasters.{WrapState, shut_takes, closes_last}
 use Rattle.ff_loop.specs.WrapShutLaws.{TiedCut-shut, shut-drops, shut-ends}

@@ -1,12 +1,11 @@
 -- A wrap's master and what it took, with one message more.
 use Rattle.std.specs.Prelude.{◌≡◌, ◌⊎◌, ◌<◌, ◌≤◌, ℕ, suc, Bool, true, false, List, [], ◌∷◌, ◌++◌, length, slice_set}
-use Rattle.std.specs.List.{AllByRecursion}
 use Rattle.std.proofs.Common.{refl, sym, ap, ◌∙◌, subst, ⊎_elim, arith, append-nil, append_assoc, length-set, inl, inr}
 use Rattle.std.proofs.lemmas.Bool.{cases_eq, false≢true}
 use Rattle.ff_rec.specs.Streams.{GoesOn, at, added, carried, unaborted}
 use Rattle.ff_rec.specs.declared.msg.Msg.TheVariants.{Item, Mark, Pick, Eos as EosMsg, Abort as AbortMsg}
 use Rattle.ff_net.specs.Logs.{HasEos, fed, got_from}
-use Rattle.ff_node.specs.Fits.{IsItemOrMark, grouped}
+use Rattle.ff_node.specs.Fits.{grouped}
 use Rattle.ff_node.specs.Runs.{Message}
 use Rattle.ff_port.specs.declared.answers.End.TheVariants.{Abort}
 use Rattle.ff_unit.specs.Closing.{IsLive}
@@ -45,7 +44,7 @@ module _ (u : WrapState) (g : List (List Message)) (ps : List Pair) (t : TiedCut
       let rest = begins (GoesOn-front (at g j) longer.0 whole (subst (λ l. GoesOn (unaborted l) whole) longer.1 goes)) in (
         rest.0 ++ unaborted longer.0,
         ap (λ l. unaborted l) longer.1 ∙ unaborted-append (at g j) longer.0 ∙ ap (λ l. l ++ unaborted longer.0) rest.1
-        ∙ append_assoc front rest.0 (unaborted longer.0),
+            ∙ append_assoc front rest.0 (unaborted longer.0),
       )
 
   -- one that was cut off takes more; nothing is said of the rest of its state
@@ -55,13 +54,13 @@ module _ (u : WrapState) (g : List (List Message)) (ps : List Pair) (t : TiedCut
     tasks = t.tasks;
     results = t.results;
     ends = λ i below h.
-      let e = t.ends i below h in
-      let longer = at-added_more g k m 0 within in
-      (subst HasEos (sym longer.1) (HasEos-front (at g 0) longer.0 e.0), e.1);
+        let e = t.ends i below h in
+        let longer = at-added_more g k m 0 within in
+        (subst HasEos (sym longer.1) (HasEos-front (at g 0) longer.0 e.0), e.1);
     last_open = t.last_open;
     fed_in = λ xs goes. begins-added 0 (carried (fed (log_of u.round))) (carried xs) (t.fed_in xs) goes;
     answers = λ j below ms goes all.
-      begins-added (suc j) (grouped (got_from j (log_of u.round))) ms (λ front. t.answers j below ms front all) goes;
+        begins-added (suc j) (grouped (got_from j (log_of u.round))) ms (λ front. t.answers j below ms front all) goes;
     telling = t.telling;
   }
 

@@ -15,7 +15,7 @@ use Rattle.ff_unit.specs.Deals.{on_outs}
 use Rattle.ff_unit.specs.Units.{TookAbort}
 use Rattle.ff_unit.specs.declared.mode.Mode.{Mode}
 use Rattle.ff_unit.specs.declared.mode.Mode.TheVariants.{Live, Shut, Cut}
-use Rattle.ff_loop.specs.Rounds.{RoundState, test_of, limit_of, workers_of, log_of, taken_of, results_of, IsRound, IsLogged, NoneToGive}
+use Rattle.ff_loop.specs.Rounds.{test_of, limit_of, workers_of, log_of, taken_of, results_of, IsRound, IsLogged, NoneToGive}
 use Rattle.ff_loop.specs.WrapMasters.{WrapState, part_at, is_past, owed}
 
 -- what was taken at an in that goes on, or has ended by Eos, and held these records

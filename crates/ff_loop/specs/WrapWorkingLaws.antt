@@ -1,5 +1,5 @@
 -- Whatever the master of a wrap takes while it works leaves it tied to its ports.
-use Rattle.std.specs.Prelude.{◌≡◌, ◌≢◌, ◌<◌, ℕ, zero, suc, Bool, true, false, List, [], ◌∷◌, length, slice_set}
+use Rattle.std.specs.Prelude.{◌≡◌, ◌≢◌, ◌<◌, ℕ, zero, suc, Bool, false, List, [], ◌∷◌, length, slice_set}
 use Rattle.std.proofs.Common.{refl, sym, ap, ◌∙◌, subst, arith, length-set, inl, inr}
 use Rattle.ff_rec.specs.Streams.{added}
 use Rattle.ff_rec.specs.declared.msg.Msg.TheVariants.{Item, Mark, Pick, Eos as EosMsg, Abort as AbortMsg}
@@ -14,7 +14,7 @@ use Rattle.ff_unit.specs.Units.{TookAbort}
 use Rattle.ff_unit.specs.declared.mode.Mode.TheVariants.{Live}
 use Rattle.ff_loop.specs.Rounds.{workers_of, IsRound, IsLogged}
 use Rattle.ff_loop.specs.WrapCutLaws.{TiedCut-works}
-use Rattle.ff_loop.specs.WrapMasters.{WrapState, IsFed, IsAnswered, WorkingTakes, is_past, part_at, cut_off, to_ends}
+use Rattle.ff_loop.specs.WrapMasters.{WrapState, WorkingTakes, is_past, part_at, cut_off, to_ends}
 use Rattle.ff_loop.specs.WrapTakenLaws.{TiedCut-added, taken-within, IsBare-taken}
 use Rattle.ff_loop.specs.WrapTiedLaws.{TiedWorks, BareAt, TiedAt, IsTied, IsBare}
 use Rattle.ff_loop.specs.WrapWorkerLaws.{works-pick, works-part, works-answered}

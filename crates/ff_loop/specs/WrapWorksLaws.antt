@@ -1,23 +1,20 @@
 -- The master of a wrap that works stays tied when it takes a message.
-use Rattle.std.specs.Prelude.{◌≡◌, ◌≢◌, ◌⊎◌, ◌+◌, ◌<◌, ℕ, zero, suc, Bool, true, false, List, [], ◌∷◌, ◌++◌, length, slice_index_or, slice_set}
-use Rattle.std.proofs.Common.{refl, sym, ap, ◌∙◌, subst, ⊎_elim, arith, append-nil, get_or-set_same, get_or-set_other, length-append, inl, inr}
+use Rattle.std.specs.Prelude.{◌≡◌, ◌+◌, ◌<◌, ℕ, suc, true, false, List, [], ◌∷◌, ◌++◌, length, slice_index_or, slice_set}
+use Rattle.std.proofs.Common.{refl, sym, ap, ◌∙◌, subst, ⊎_elim, arith, append-nil, get_or-set_same, get_or-set_other}
 use Rattle.std.proofs.lemmas.Bool.{cases_eq}
 use Rattle.ff_rec.specs.Lines.{Rec}
 use Rattle.ff_rec.specs.Streams.{IsOpenMsg, at, added, carried, items}
-use Rattle.ff_rec.specs.declared.msg.Msg.TheVariants.{Item, Mark, Pick, Eos as EosMsg}
-use Rattle.ff_net.specs.Logs.{Event, fed, given_to, got_from}
-use Rattle.ff_net.specs.Logs.{Fed as EventFed, Got as EventGot}
+use Rattle.ff_rec.specs.declared.msg.Msg.TheVariants.{Item, Eos as EosMsg}
+use Rattle.ff_net.specs.Logs.{fed, given_to, got_from}
 use Rattle.ff_node.specs.Runs.{Message}
-use Rattle.ff_node.specs.Sends.{Sent, add, nothing_sent}
-use Rattle.ff_port.specs.declared.answers.End.TheVariants.{Eos}
 use Rattle.ff_unit.specs.Closing.{IsLive}
 use Rattle.ff_unit.specs.DealPairLaws.{Pair, on, AreInner}
 use Rattle.ff_unit.specs.FlagLaws.{IsLive-within}
 use Rattle.ff_unit.specs.MessageLaws.{IsOpen-append, items-append}
 use Rattle.ff_unit.specs.TakenLaws.{at-added, at-added_other}
-use Rattle.ff_loop.specs.Rounds.{workers_of, log_of, taken_of, GoesRound}
-use Rattle.ff_loop.specs.WrapAnswerLaws.{got_from-own, got_from-other, AnswersWhole-item, AnswersWhole-mark, AnswersWhole-pick, AnswersWhole-log}
-use Rattle.ff_loop.specs.WrapMasters.{WrapState, IsFed, IsAnswered, part_at, owed}
+use Rattle.ff_loop.specs.Rounds.{workers_of, log_of, taken_of}
+use Rattle.ff_loop.specs.WrapAnswerLaws.{AnswersWhole-log}
+use Rattle.ff_loop.specs.WrapMasters.{WrapState, IsFed, part_at, owed}
 use Rattle.ff_loop.specs.WrapTiedLaws.{HoldsFed, AnswersWhole, TiedWorks}
 
 -- a fact on all numbers, by that on one of them and on the others
@@ -33,7 +30,7 @@ HoldsFed-drops ms xs m is none h =
     (IsOpen-append ms (m ∷ []) h.0 (is, tt), items-append ms (m ∷ []) ∙ ap (λ l. items ms ++ l) none ∙ append-nil (items ms) ∙ h.1)
 
 module _ (u : WrapState) (g : List (List Message)) (ps : List Pair) (t : TiedWorks u g ps) where
-  -- what is put stays: of the same log, but for what was taken
+  -- it holds what it held, and its log tells of the same tasks for its workers
   pub works : (v : WrapState) (g' : List (List Message)) → v.end ≡ u.end → v.done ≡ u.done → v.held ≡ u.held → workers_of v.round ≡ workers_of u.round
       → taken_of v.round ≡ taken_of u.round → ((j : ℕ) → given_to j (log_of v.round) ≡ given_to j (log_of u.round))
       → HoldsFed (slice_index_or v.live 0 false) (at g' 0) (fed (log_of v.round))
@@ -46,14 +43,14 @@ module _ (u : WrapState) (g : List (List Message)) (ps : List Pair) (t : TiedWor
     goes_on = done ∙ t.goes_on;
     inner = subst (λ h. AreInner (suc (workers_of v.round)) (ps ++ h)) (sym held) (subst (λ n. AreInner (suc n) (ps ++ u.held)) (sym same) t.inner);
     tasks = λ j below.
-      ap (λ h. on j (ps ++ h)) held ∙ t.tasks j (subst (λ n. j < n) same below) ∙ ap (λ l. carried l) (sym (given j));
+        ap (λ h. on j (ps ++ h)) held ∙ t.tasks j (subst (λ n. j < n) same below) ∙ ap (λ l. carried l) (sym (given j));
     results = ap (λ h. on (workers_of v.round) (ps ++ h)) held ∙ ap (λ n. on n (ps ++ u.held)) same ∙ t.results ∙ ap (λ l. carried l) (sym taken);
     fed_in = fed_in;
     answers = λ j below. answers j (subst (λ n. j < n) same below);
     owes = λ j below. owes j (subst (λ n. j < n) same below) ∙ ap (λ l. length l) (sym (given j));
   }
 
-  -- in 0 gives: `log` is the log then
+  -- in 0 gives
   module _ (on_0 : IsLive u.live 0) (within : 0 < length g) where
     fed_in_0 : HoldsFed true (at g 0) (fed (log_of u.round))
     fed_in_0 = subst (λ l. HoldsFed l (at g 0) (fed (log_of u.round))) on_0 t.fed_in
