@@ -13,7 +13,7 @@ returns-clause-puts c =
     let puts = c.args.self.now.put.items in
     let none = nothing puts c.args.k in (
       ap (slice_set puts c.args.k)
-      (c.note.ensures ∙ ap (λ ms. ms ++ c.args.m ∷ []) (get_or_read puts c.args.k c.index_mut.result.now c.requires.within c.index_mut.ensures.value [])),
+          (c.note.ensures ∙ ap (λ ms. ms ++ c.args.m ∷ []) (get_or_read puts c.args.k c.index_mut.result.now c.requires.within c.index_mut.ensures.value [])),
       omega (arith, none),
     )
 
