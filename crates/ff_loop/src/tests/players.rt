@@ -4,15 +4,15 @@ ghost use Rattle.ff_rec.specs.Streams.{IsOpen};
 ghost use Rattle.ff_port.specs.Ends.{at, OthersStay, PutsAt};
 ghost use Rattle.ff_test_ports.specs.Fickle.{nothing_at};
 
+use super::letters::{next_at, play, send};
 use ff_port::{Msg, Past, Ports, Put};
-use ff_rec::{Field, Record};
-use std::alloc::{AllocError, Global};
+use ff_rec::Record;
+use std::alloc::Global;
 use std::collections::VecDeque;
 use std::test::Fail;
 
 /// Ports where each task is answered at once, by a list of answers as '3:2x| 2:y|': to the record 3 come the record 2, x and a
-/// Mark, and to 2 come y and a Mark. In these words an item is its letter, `|` is a Mark, `*` a Pick, `.` Eos and `!` Abort.
-/// A worker answers `.` to Eos and `!` to Abort, where the list says no other.
+/// Mark, and to 2 come y and a Mark. A worker answers `.` to Eos and `!` to Abort, where the list says no other.
 #[derive(Drop)]
 pub(super) struct Players {
     // What clauses read.
@@ -74,78 +74,6 @@ fn nothing_passed(alloc: Global, count: usize) -> Result<Vec<Past<Msg<Record>>>,
         all.push(Past::new())?;
     }
     Ok(all)
-}
-
-// More comes at in `k`.
-fn send(coming: &mut Vec<VecDeque<u8>>, k: usize, script: &str) -> Result<(), AllocError> {
-    if let Some(queue) = coming.get_mut(k) {
-        for letter in script.as_bytes() {
-            queue.push_back(*letter)?;
-        }
-    }
-    Ok(())
-}
-
-// What a worker answers to a message.
-fn answer(answers: &'static str, letter: &str) -> &'static str {
-    for one in answers.split(' ') {
-        if let Some(rest) = one.strip_prefix(letter) {
-            return rest.trim_start_matches(':');
-        }
-    }
-    match letter {
-        "." => ".",
-        "!" => "!",
-        _ => "|",
-    }
-}
-
-fn letter_of(m: &Msg<Record>) -> &str {
-    match m {
-        Msg::Item(r) => str::from_utf8(r.joined()).unwrap_or("?"),
-        Msg::Mark => "|",
-        Msg::Pick(_) => "*",
-        Msg::Eos => ".",
-        Msg::Abort => "!",
-    }
-}
-
-// Notes a message at out `k`, and sends what its worker answers.
-fn play(
-    seen: &mut Vec<String>,
-    coming: &mut Vec<VecDeque<u8>>,
-    answers: &'static str,
-    k: usize,
-    m: &Msg<Record>,
-) -> Result<(), AllocError> {
-    let letter = letter_of(m);
-    if let Some(script) = seen.get_mut(k) {
-        script.push_str(letter)?;
-    }
-    let worker = k.saturating_add(1);
-    if worker < seen.len() {
-        send(coming, worker, answer(answers, letter))?;
-    }
-    Ok(())
-}
-
-// What comes next at in `k`.
-fn next_at(alloc: Global, coming: &mut Vec<VecDeque<u8>>, k: usize) -> Option<Msg<Record>> {
-    let letter = coming.get_mut(k)?.pop_front()?;
-    message_of(alloc, letter)
-}
-
-fn message_of(alloc: Global, letter: u8) -> Option<Msg<Record>> {
-    Some(match letter {
-        b'|' => Msg::Mark,
-        b'*' => Msg::Pick(0),
-        b'.' => Msg::Eos,
-        b'!' => Msg::Abort,
-        _ => {
-            let field = Field::new(alloc, &[letter]).ok()?;
-            Msg::Item(Record::one(alloc, &field).ok()?)
-        }
-    })
 }
 
 impl Ports<Record> for Players {
