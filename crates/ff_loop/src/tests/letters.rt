@@ -67,8 +67,11 @@ pub(super) fn next_at(
     coming: &mut Vec<VecDeque<u8>>,
     k: usize,
 ) -> Option<Msg<Record>> {
-    let letter = coming.get_mut(k)?.pop_front()?;
-    message_of(alloc, letter)
+    let queue = coming.get_mut(k)?;
+    // Where memory is refused, the letter stays.
+    let m = message_of(alloc, *queue.front()?)?;
+    queue.pop_front();
+    Some(m)
 }
 
 fn message_of(alloc: Global, letter: u8) -> Option<Msg<Record>> {
