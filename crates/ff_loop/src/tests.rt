@@ -2,6 +2,7 @@
 ghost use Rattle.std.specs.Prelude.{◌≡◌, ◌<◌, IfOk};
 ghost use Rattle.ff_loop.specs.Rounds.{IsRound, workers_of};
 
+mod letters;
 mod players;
 mod workers;
 mod wrap_masters;

@@ -1,18 +1,18 @@
 // The ports of a wrap's master, behind which a test plays the workers and whoever feeds it.
-ghost use Rattle.std.specs.Prelude.{◌≡◌, ◌<◌, [], true, length, replicate, IfOk};
+ghost use Rattle.std.specs.Prelude.{◌≡◌, ◌<◌, [], suc, true, length, replicate, IfOk};
 ghost use Rattle.ff_rec.specs.Streams.{IsOpen};
 ghost use Rattle.ff_port.specs.Ends.{at, OthersStay, PutsAt};
 ghost use Rattle.ff_test_ports.specs.Fickle.{nothing_at};
 
+use super::letters::{next_at, play, send};
 use ff_port::{Msg, Past, Ports, Put};
-use ff_rec::{Field, Record};
-use std::alloc::{AllocError, Global};
+use ff_rec::Record;
+use std::alloc::Global;
 use std::collections::VecDeque;
 use std::test::Fail;
 
 /// Ports where each task is answered at once, by a list of answers as '3:2x| 2:y|': to the record 3 come the record 2, x and a
-/// Mark, and to 2 come y and a Mark. In these words an item is its letter, `|` is a Mark, `*` a Pick, `.` Eos and `!` Abort.
-/// A worker answers `.` to Eos and `!` to Abort, where the list says no other.
+/// Mark, and to 2 come y and a Mark. A worker answers `.` to Eos and `!` to Abort, where the list says no other.
 #[derive(Drop)]
 pub(super) struct Players {
     // What clauses read.
@@ -34,8 +34,8 @@ impl Players {
         answers: &'static str,
     ) -> Result<Players, Fail>
         requires { workers < 1000 }
-        ensures gots { IfOk result (λ p. p.got.items ≡ replicate (workers + 1) []) }
-        ensures puts { IfOk result (λ p. p.put.items ≡ replicate (workers + 1) []) }
+        ensures gots { IfOk result (λ p. p.got.items ≡ replicate (suc workers) []) }
+        ensures puts { IfOk result (λ p. p.put.items ≡ replicate (suc workers) []) }
     {
         let mut coming = Vec::new(alloc);
         let mut seen = Vec::new(alloc);
@@ -63,21 +63,6 @@ impl Players {
         }
         Ok(all)
     }
-
-    // Notes a message at out `k`, and sends what its worker answers.
-    fn play(&mut self, k: usize, m: &Msg<Record>) -> Result<(), AllocError>
-        ensures gots { self.new.got ≡ self.old.got }
-        ensures puts { self.new.put ≡ self.old.put }
-    {
-        let letter = letter_of(m);
-        if let Some(script) = self.seen.get_mut(k) {
-            script.push_str(letter)?;
-        }
-        if k + 1 < self.seen.len() {
-            send(&mut self.coming, k + 1, answer(self.answers, letter))?;
-        }
-        Ok(())
-    }
 }
 
 // Nothing passed at any of so many.
@@ -89,53 +74,6 @@ fn nothing_passed(alloc: Global, count: usize) -> Result<Vec<Past<Msg<Record>>>,
         all.push(Past::new())?;
     }
     Ok(all)
-}
-
-// More comes at in `k`.
-fn send(coming: &mut Vec<VecDeque<u8>>, k: usize, script: &str) -> Result<(), AllocError> {
-    if let Some(queue) = coming.get_mut(k) {
-        for letter in script.as_bytes() {
-            queue.push_back(*letter)?;
-        }
-    }
-    Ok(())
-}
-
-// What a worker answers to a message.
-fn answer(answers: &'static str, letter: &str) -> &'static str {
-    for one in answers.split(' ') {
-        if let Some(rest) = one.strip_prefix(letter) {
-            return rest.trim_start_matches(':');
-        }
-    }
-    match letter {
-        "." => ".",
-        "!" => "!",
-        _ => "|",
-    }
-}
-
-fn letter_of(m: &Msg<Record>) -> &str {
-    match m {
-        Msg::Item(r) => str::from_utf8(r.joined()).unwrap_or("?"),
-        Msg::Mark => "|",
-        Msg::Pick(_) => "*",
-        Msg::Eos => ".",
-        Msg::Abort => "!",
-    }
-}
-
-fn message_of(alloc: Global, letter: u8) -> Option<Msg<Record>> {
-    Some(match letter {
-        b'|' => Msg::Mark,
-        b'*' => Msg::Pick(0),
-        b'.' => Msg::Eos,
-        b'!' => Msg::Abort,
-        _ => {
-            let field = Field::new(alloc, &[letter]).ok()?;
-            Msg::Item(Record::one(alloc, &field).ok()?)
-        }
-    })
 }
 
 impl Ports<Record> for Players {
@@ -169,10 +107,13 @@ impl Ports<Record> for Players {
     }
 
     fn try_take(&mut self, k: usize) -> Option<Msg<Record>> {
-        let letter = self.coming.get_mut(k)?.pop_front()?;
-        let m = message_of(self.alloc, letter)?;
-        self.got[k].note(&m);
-        Some(m)
+        match next_at(self.alloc, &mut self.coming, k) {
+            None => None,
+            Some(m) => {
+                self.got[k].note(&m);
+                Some(m)
+            }
+        }
     }
 
     fn try_put(&mut self, k: usize, m: Msg<Record>) -> Put<Record>
@@ -184,7 +125,7 @@ impl Ports<Record> for Players {
         ensures gots { self.new.got.items ≡ self.old.got.items }
         ensures knowns { nothing_at self.new.got.items ≡ nothing_at self.old.got.items }
     {
-        if self.play(k, &m).is_err() {
+        if play(&mut self.seen, &mut self.coming, self.answers, k, &m).is_err() {
             return Put::Full(m);
         }
         self.put[k].note(&m);
