@@ -30,11 +30,12 @@ use Rattle.ff_steps.specs.OverEdges.{HasAnswered, RanAlong, RanOver}
 use Rattle.ff_steps.specs.NetUnits.{net_does}
 use Rattle.ff_steps.proofs.OverEnds.{HasEndedWell}
 use Rattle.ff_stream.specs.Endings.{Begun, IsBeginning, IsReported}
-use Rattle.ff_stream.specs.FlowLaws.{Begun-beginning, no-wrap}
+use Rattle.ff_stream.specs.FlowLaws.{Begun-beginning}
 use Rattle.ff_stream.specs.Jobs.{Job}
-use Rattle.ff_stream.specs.Works.{HasEnded as RunEnded, IsOpen as IsOpenRun}
+use Rattle.ff_stream.specs.Works.{HasBroken, HasEnded as RunEnded, IsOpen as IsOpenRun}
 use Rattle.ff_stream.specs.declared.ending.Report.{Report}
 use Rattle.ff_stream.specs.declared.fault.Halt.{Halt}
+use Rattle.ff_stream.specs.declared.fault.Halt.TheVariants.{Write, NoMemory}
 use Rattle.ff_unit.specs.MessageLaws.{IsOpen-carried, items-append, unaborted-closed, unaborted-cut}
 use Rattle.ff_unit.specs.Units.{Doing, end_of}
 use Rattle.ff_engine.specs.Crews.{IsJoined}
@@ -70,6 +71,12 @@ ends-parts true (Some Abort) is = absurd (both_ways false refl is)
 ends-parts true (Some Memory) is = absurd (both_ways false refl is)
 ends-parts true None is = absurd (both_ways false refl is)
 ends-parts false fin is = absurd (both_ways false refl is)
+
+-- with a wrap nothing was written, and without one it begins an answer
+Begun-either : {N : Type 0} (j : Job N) (halt : Halt) (xs : List Rec) (front : List ℕ) (wraps : Bool) → (wraps ≡ true → (front ≡ []) × (halt ≡ NoMemory))
+    → (wraps ≡ false → IsBeginning j xs front) → Begun j halt xs front
+Begun-either j halt xs front true waits begins = let w = waits refl in subst (λ h. Begun j h xs front) (sym w.1) (inl w.0)
+Begun-either j halt xs front false waits begins = Begun-beginning j halt xs front (begins refl)
 
 module _ {N : Type 0} (b : Behaviour N) where
   abbrev d : Doing (UnitOf N)
@@ -110,16 +117,17 @@ module _ {N : Type 0} (b : Behaviour N) where
       ran = ran;
     }
 
-    -- what was taken behind them is the first of an answer
-    begins : (xs : List Rec) → GoesOn (unaborted before) (carried xs) → BeginsAnswer b j.tasks j.net xs (items (put 1))
-    begins xs goes =
-        BeginsAnswer-over b made.laws.kind (IsUnit-laws b made.laws.kind made.laws.class) j.keep j.tasks j.net made.whole made.laws.good (made.laws.cut_runs j.tasks) us got put over xs
+    -- without a wrap what was taken behind them is the first of an answer
+    begins : has_wrap j.net ≡ false → (xs : List Rec) → GoesOn (unaborted before) (carried xs) → BeginsAnswer b j.tasks j.net xs (items (put 1))
+    begins free xs goes =
+        BeginsAnswer-over b made.laws.kind (IsUnit-laws b made.laws.kind made.laws.class) j.keep j.tasks j.net free made.laws.good (made.laws.cut_runs j.tasks) us got put over xs
         (subst (λ ms. GoesOn (unaborted ms) (carried xs)) (sym joined.settled.fed) goes)
 
     -- the text of it begins an answer
-    pub IsBeginning-joined : (xs : List Rec) → GoesOn (unaborted before) (carried xs) → (front back : List ℕ) → text (items taken) ≡ front ++ back → IsBeginning j xs front
-    IsBeginning-joined xs goes front back splits =
-        let begun = begins xs goes in
+    IsBeginning-joined : has_wrap j.net ≡ false → (xs : List Rec) → GoesOn (unaborted before) (carried xs) → (front back : List ℕ)
+        → text (items taken) ≡ front ++ back → IsBeginning j xs front
+    IsBeginning-joined free xs goes front back splits =
+        let begun = begins free xs goes in
         let more = joined.settled.first 1 in
         let came : begun.all ≡ items taken ++ (items more.0 ++ begun.rest) =
         begun.splits ∙ ap (λ l. l ++ begun.rest) (ap items more.1 ∙ items-append (got 1) more.0 ∙ ap (λ ms. items ms ++ items more.0) joined.settled.drained)
@@ -134,16 +142,18 @@ module _ {N : Type 0} (b : Behaviour N) where
 
     -- where Abort was put behind the records, it begins one whatever follows
     pub IsOpen-joined : (halt : Halt) (xs : List Rec) → before ≡ carried xs ++ AbortMsg ∷ [] → (front back : List ℕ) → text (items taken) ≡ front ++ back
-        → IsOpenRun j halt xs front
-    IsOpen-joined halt xs put front back splits = record {
-      begun = λ zs. Begun-beginning j halt (xs ++ zs) front (IsBeginning-joined (xs ++ zs) (GoesOn-open before xs zs put) front back splits);
-      waits = λ wraps. no-wrap (has_wrap j.net) made.whole wraps;
+        → (has_wrap j.net ≡ true → (front ≡ []) × (halt ≡ NoMemory)) → IsOpenRun j halt xs front
+    IsOpen-joined halt xs put front back splits waits = record {
+      begun = λ zs. Begun-either j halt (xs ++ zs) front (has_wrap j.net) waits
+          (λ free. IsBeginning-joined free (xs ++ zs) (GoesOn-open before xs zs put) front back splits);
+      waits = waits;
     }
 
     -- where it broke off at its end
     pub Begun-joined : (halt : Halt) (xs : List Rec) → (before ≡ carried xs ++ EosMsg ∷ []) ⊎ (before ≡ carried xs ++ AbortMsg ∷ []) → (front back : List ℕ)
-        → text (items taken) ≡ front ++ back → Begun j halt xs front
-    Begun-joined halt xs put front back splits = Begun-beginning j halt xs front (IsBeginning-joined xs goes front back splits)
+        → text (items taken) ≡ front ++ back → (has_wrap j.net ≡ true → (front ≡ []) × (halt ≡ NoMemory)) → Begun j halt xs front
+    Begun-joined halt xs put front back splits waits =
+        Begun-either j halt xs front (has_wrap j.net) waits (λ free. IsBeginning-joined free xs goes front back splits)
       where
         goes : GoesOn (unaborted before) (carried xs)
         goes = elim put [
@@ -195,6 +205,20 @@ module _ {N : Type 0} (b : Behaviour N) where
         answers = subst (λ does. Answers does j.tasks j.net xs answered.ys) (sym made.does_is) answered.answers;
         whole = ap text (sym (items-joined last eos)) ∙ splits;
         reports = IsReported-joined report number kept;
+      }
+
+      -- a part of one
+      pub HasBroken-joined : (front last written back : _) → taken ≡ closed last → text (items taken) ≡ (front ++ written) ++ back
+          → (t t' : Option (List ℕ)) → Appends t t' written → HasBroken j Write xs front t t'
+      HasBroken-joined front last written back eos splits t t' appended = record {
+        put = written;
+        taken = appended;
+        begun = record {
+          sent = answered.ys;
+          back = back;
+          answers = subst (λ does. Answers does j.tasks j.net xs answered.ys) (sym made.does_is) answered.answers;
+          splits = ap text (sym (items-joined last eos)) ∙ splits;
+        };
       }
 
       -- the jobs handled each record, and an end for each unit

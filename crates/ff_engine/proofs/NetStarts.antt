@@ -41,6 +41,8 @@ module _ {N : Type 0} (b : Behaviour N) where
         put = prepared.put;
         linked = prepared.linked;
         shows = ap (λ ms. text (items ms)) prepared.got ∙ sym prepared.text;
+        holds = prepared.holds;
+        waits = λ wraps. refl;
         made = record {
           does_is = refl;
           whole = whole;

@@ -58,7 +58,14 @@ pub(crate) fn prepare<N: Node + Send + 'static, R: Wait + Clone + Drop + Send + 
     let running = RunningJobs::with_capacity(alloc, jobs.len())?;
     let Bells { own, units: others } = bells;
     Ok(Prepared {
-        caller: Caller::new(alloc, first, last, Pause::new(own), others),
+        caller: Caller::new(
+            alloc,
+            first,
+            last,
+            Pause::new(own),
+            others,
+            checked.has_wrap(),
+        ),
         jobs,
         board,
         units: room,

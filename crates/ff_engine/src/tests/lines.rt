@@ -77,7 +77,7 @@ fn a_pipe_comes_to_its_end(rt: HostRuntime) -> Result<(), Fail> {
         // No job was started.
         running.finish_all(&mut spawner, &mut Vec::new(alloc));
         assert_eq!(rt; jobs.len(), count);
-        let (mut first, mut last) = caller.into_ends();
+        let (mut first, mut last, _) = caller.into_parts();
         assert!(rt; puts_record(alloc, &mut first)?);
         assert!(rt; matches!(first.try_put(Msg::Eos), Put::Done));
         let mut units = run_all(alloc, jobs)?;

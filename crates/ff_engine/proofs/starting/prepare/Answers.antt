@@ -62,6 +62,7 @@ returns g c =
       put = ap (λ (s : CallerState). s.put) c.new-3.ensures ∙ made.put;
       got = ap (λ (s : CallerState). s.got) c.new-3.ensures ∙ made.got;
       text = ap (λ (s : CallerState). s.text) c.new-3.ensures;
+      holds = ap (λ (s : CallerState). s.holds) c.new-3.ensures ∙ c.has_wrap.ensures;
       linked = subst (λ (s : CallerState). Linked s.writes jobs s.reads) (sym c.new-3.ensures) made.linked;
       units_are = made.units ∙ c.in_ok-units.ensures.units;
       rows_are = made.rows ∙ rows;

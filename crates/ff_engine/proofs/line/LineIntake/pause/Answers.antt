@@ -7,4 +7,4 @@ use Rattle.ff_engine.proofs.line.LineIntake.pause.Goals as goal
 pub returns-clause-err : goal.returns-clause-err
 returns-clause-err g c =
     IfErr-breaks g.N.Node.does (λ l. caller_of l.caller) (λ l. l.crew) c.show.result c.args.self.now _ [] _ _ refl
-    c.show.ensures.goes.breaks (on_err c.show.result c.show.ensures.put) c.show.ensures.goes.rings
+    c.show.ensures.goes.breaks c.show.ensures.goes.starves (on_err c.show.result c.show.ensures.put) c.show.ensures.goes.rings
