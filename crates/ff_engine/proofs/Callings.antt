@@ -1,5 +1,5 @@
 -- How the calling thread goes on: one stretch behind another.
-use Rattle.std.proofs.Common.{◌≡◌, ℕ, true, false, List, [], ◌∷◌, ◌++◌, refl, sym, ap, ap₂, ◌∙◌, append_assoc, append-nil}
+use Rattle.std.proofs.Common.{◌≡◌, ℕ, List, [], ◌∷◌, ◌++◌, refl, sym, ap, ap₂, ◌∙◌, append_assoc, append-nil}
 use Rattle.std.specs.Prelude.{Option, None, Some, Result, Ok, Err}
 use Rattle.std.proofs.KnownBytes.{Appends-nil, Appends-trans}
 use Rattle.std.proofs.lemmas.Grind.{flat_map-append}
@@ -7,13 +7,11 @@ use Rattle.ff_rec.specs.Lines.{Rec, line_of, text}
 use Rattle.ff_rec.specs.Streams.{items}
 use Rattle.ff_rec.specs.declared.msg.Msg.TheVariants.{Item, Mark, Pick, Eos, Abort}
 use Rattle.ff_node.specs.Runs.{Message}
-use Rattle.ff_stream.specs.FlowLaws.{no-wrap}
-use Rattle.ff_stream.specs.Texts.{Writes, WritesSome}
 use Rattle.ff_stream.specs.Works.{halt_count}
 use Rattle.ff_stream.specs.declared.fault.Halt.{Halt}
 use Rattle.ff_stream.specs.declared.fault.Halt.TheVariants.{Write, NoMemory}
 use Rattle.ff_unit.specs.MessageLaws.{items-append}
-use Rattle.ff_engine.specs.Callers.{CallerState, Moves, Breaks, SameRings, GoesOn, TakesMore, Receives, Feeds, Waits}
+use Rattle.ff_engine.specs.Callers.{CallerState, Moves, Breaks, SameRings, GoesOn, TakesMore, Receives, Feeds}
 
 -- the rings stay over two stretches
 pub SameRings-refl : (c : CallerState) → SameRings c c
@@ -30,15 +28,6 @@ pub TakesMore-trans : (c d e : CallerState) → TakesMore c d → TakesMore d e 
 TakesMore-trans c d e first second = record {
   more = first.more ++ second.more;
   is = second.is ∙ ap (λ ms. ms ++ second.more) first.is ∙ append_assoc c.got first.more second.more;
-}
-
--- nothing happened
-pub Moves-refl : (c : CallerState) (t : Option (List ℕ)) → Moves c c t t
-Moves-refl c t = record {
-  written = [];
-  taken = Appends-nil t;
-  shows = λ front at. at ∙ ap (λ l. l ++ c.text) (sym (append-nil front));
-  waits = λ holds. refl;
 }
 
 -- one stretch behind another
@@ -79,38 +68,7 @@ Breaks-more c d e t t' broke more = record {
 text-more : (ms : List Message) (m : Message) → text (items (ms ++ m ∷ [])) ≡ text (items ms) ++ text (items (m ∷ []))
 text-more ms m = ap text (items-append ms (m ∷ [])) ∙ flat_map-append line_of (items ms) (items (m ∷ []))
 
--- where text isn't held, it doesn't wait
-Waits-not : (c : CallerState) (written : List ℕ) → c.holds ≡ false → Waits c written
-Waits-not c written not holds = no-wrap c.holds not holds
-
--- a record came, its line is held, and some of what is held was written
-pub Moves-record : (c d e : CallerState) (r : Rec) (held : List ℕ) (t t' : Option (List ℕ)) → c.holds ≡ false → d.got ≡ c.got ++ Item r ∷ [] → held ≡ c.text ++ line_of r
-    → e.got ≡ d.got → Writes held e.text t t' → Moves c e t t'
-Moves-record c d e r held t t' not took printed kept writes = record {
-  written = writes.put;
-  taken = writes.taken;
-  shows = λ front at.
-      ap (λ ms. text (items ms)) (kept ∙ took) ∙ text-more c.got (Item r) ∙ ap (λ l. l ++ text (r ∷ [])) at
-      ∙ append_assoc front c.text (text (r ∷ [])) ∙ ap (λ l. front ++ (c.text ++ l)) (append-nil (line_of r))
-      ∙ ap (λ l. front ++ l) (sym printed ∙ writes.splits) ∙ sym (append_assoc front writes.put e.text);
-  waits = Waits-not c writes.put not;
-}
-
-pub Breaks-record : (c d e : CallerState) (r : Rec) (held : List ℕ) (t t' : Option (List ℕ)) → c.holds ≡ false → d.got ≡ c.got ++ Item r ∷ [] → held ≡ c.text ++ line_of r
-    → e.got ≡ d.got → WritesSome held t t' → Breaks c e t t'
-Breaks-record c d e r held t t' not took printed kept writes = record {
-  written = writes.put;
-  taken = writes.taken;
-  shows = λ front at. (
-    writes.back,
-    ap (λ ms. text (items ms)) (kept ∙ took) ∙ text-more c.got (Item r) ∙ ap (λ l. l ++ text (r ∷ [])) at
-        ∙ append_assoc front c.text (text (r ∷ [])) ∙ ap (λ l. front ++ (c.text ++ l)) (append-nil (line_of r))
-        ∙ ap (λ l. front ++ l) (sym printed ∙ writes.splits) ∙ sym (append_assoc front writes.put writes.back),
-  );
-  waits = Waits-not c writes.put not;
-}
-
--- a record came, and all is held
+-- a record came, and its line is held
 pub Moves-held : (c e : CallerState) (r : Rec) (t : Option (List ℕ)) → e.got ≡ c.got ++ Item r ∷ [] → e.text ≡ c.text ++ line_of r → Moves c e t t
 Moves-held c e r t took printed = record {
   written = [];
@@ -144,23 +102,6 @@ Moves-empty c e m t none took same = record {
       ap (λ ms. text (items ms)) took ∙ text-more c.got m ∙ ap (λ xs. text (items c.got) ++ text xs) none ∙ append-nil (text (items c.got)) ∙ at
       ∙ ap (λ l. front ++ l) (sym same) ∙ ap (λ l. l ++ e.text) (sym (append-nil front));
   waits = λ holds. refl;
-}
-
--- what is held was written, all or a part of it
-pub Moves-written : (c e : CallerState) (t t' : Option (List ℕ)) → c.holds ≡ false → e.got ≡ c.got → Writes c.text e.text t t' → Moves c e t t'
-Moves-written c e t t' not same writes = record {
-  written = writes.put;
-  taken = writes.taken;
-  shows = λ front at. ap (λ ms. text (items ms)) same ∙ at ∙ ap (λ l. front ++ l) writes.splits ∙ sym (append_assoc front writes.put e.text);
-  waits = Waits-not c writes.put not;
-}
-
-pub Breaks-written : (c e : CallerState) (t t' : Option (List ℕ)) → c.holds ≡ false → e.got ≡ c.got → WritesSome c.text t t' → Breaks c e t t'
-Breaks-written c e t t' not same writes = record {
-  written = writes.put;
-  taken = writes.taken;
-  shows = λ front at. (writes.back, ap (λ ms. text (items ms)) same ∙ at ∙ ap (λ l. front ++ l) writes.splits ∙ sym (append_assoc front writes.put writes.back));
-  waits = Waits-not c writes.put not;
 }
 
 -- a message came that isn't a record

@@ -1,8 +1,9 @@
 -- How a line of threads takes records, and how it ends, in the words of a run.
-use Rattle.std.proofs.Common.{◌≡◌, ℕ, true, List, [], ◌∷◌, ◌++◌, Some, refl, sym, ap, ap₂, ◌∙◌, inl, inr, subst, append_assoc, append-nil}
+use Rattle.std.proofs.Common.{◌≡◌, ℕ, Bool, true, false, List, [], ◌∷◌, ◌++◌, Some, refl, sym, ap, ap₂, ◌∙◌, inl, inr, subst, append_assoc, append-nil}
 use Rattle.std.proofs.KnownBytes.{Appends-nil, Appends-trans}
 use Rattle.std.proofs.lemmas.Grind.{flat_map-append}
 use Rattle.std.proofs.lemmas.List.{map-append}
+use Rattle.std.specs.Io.KnownBytes.{Appends, Keeps}
 use Rattle.std.specs.List.{list_all}
 use Rattle.std.specs.Prelude.{Option, None, Result, Ok, Err, OnOk, OnErr, IfErr, sum_by}
 use Rattle.std.specs.List.{flat_map}
@@ -13,21 +14,23 @@ use Rattle.ff_rec.specs.declared.msg.Msg.TheVariants.{Item, Eos, Abort}
 use Rattle.ff_node.specs.Behaviour.{Behaviour}
 use Rattle.ff_node.specs.Runs.{Message}
 use Rattle.ff_net.specs.Forms.{has_wrap}
+use Rattle.ff_net.specs.Meaning.{Fine}
+use Rattle.ff_plan.proofs.MeanPlain.{no_wrap_fine}
 use Rattle.ff_port.specs.declared.answers.End.{End}
 use Rattle.ff_port.specs.declared.answers.End.TheVariants.{Eos as EndEos}
 use Rattle.ff_ring.specs.Bundles.{ahead_of}
 use Rattle.ff_steps.specs.NetUnits.{net_does}
-use Rattle.ff_stream.specs.Endings.{halted}
+use Rattle.ff_stream.specs.Endings.{halted, output_count}
 use Rattle.ff_stream.specs.Jobs.{Job}
 use Rattle.ff_stream.specs.Texts.{Writes, WritesSome}
-use Rattle.ff_stream.specs.Works.{Ends, Goes, HasBroken, Halts, IsOpen as IsOpenRun}
+use Rattle.ff_stream.specs.Works.{Ends, Goes, HasBroken, Halts, IsOpen as IsOpenRun, halt_count}
 use Rattle.ff_stream.specs.declared.ending.Report.{Report}
 use Rattle.ff_stream.specs.declared.fault.Halt.{Halt}
 use Rattle.ff_stream.specs.declared.fault.Halt.TheVariants.{Write, NoMemory}
 use Rattle.ff_stream.specs.declared.fault.RunFault.{RunFault}
-use Rattle.ff_stream.specs.declared.fault.RunFault.TheVariants.{Write as WriteFault}
+use Rattle.ff_stream.specs.declared.fault.RunFault.TheVariants.{Tasks, Write as WriteFault, NoMemory as NoMemoryFault}
 use Rattle.ff_unit.specs.MessageLaws.{IsOpen-carried, items-append}
-use Rattle.ff_unit.specs.Units.{end_of}
+use Rattle.ff_unit.specs.Units.{Doing, end_of}
 use Rattle.ff_engine.specs.Callers.{CallerState, Moves, Breaks, SameRings, EndsOnce, EndsWithEos, TakesMore, Waits}
 use Rattle.ff_engine.specs.Conclusions.{Concludes}
 use Rattle.ff_engine.specs.Crews.{IsJoined}
@@ -41,6 +44,10 @@ use Rattle.ff_engine.proofs.LineRuns.{AllEnded, Begun-joined, HasBroken-joined, 
 pub on_err : {A E P : Type 0} (answer : Result A E) → P → OnErr answer P
 on_err (Ok a) p = tt
 on_err (Err e) p = p
+
+pub on_ok : {A E P : Type 0} (answer : Result A E) → P → OnOk answer P
+on_ok (Ok a) p = p
+on_ok (Err e) p = tt
 
 -- where records alone were put, more may be
 pub IsOpen-put : (put : List Message) → put ≡ carried (items put) → IsOpen put
@@ -110,7 +117,7 @@ module _ {N : Type 0} (b : Behaviour N) where
     broken = λ j w halt xs front. HasStopped b j (seen w) (jobs w) halt xs front
 
     -- it took these records
-    pub Goes-moves : (w v : W) (rs : List Rec) (t t' : Option (List ℕ)) → jobs v ≡ jobs w → Moves (seen w) (seen v) t t' → (seen v).put ≡ (seen w).put ++ carried rs
+    Goes-moves : (w v : W) (rs : List Rec) (t t' : Option (List ℕ)) → jobs v ≡ jobs w → Moves (seen w) (seen v) t t' → (seen v).put ≡ (seen w).put ++ carried rs
         → SameRings (seen w) (seen v) → Goes stands w rs v t t'
     Goes-moves w v rs t t' crew moved put same = record {
       put = moved.written;
@@ -118,6 +125,11 @@ module _ {N : Type 0} (b : Behaviour N) where
       keeps = λ j xs front at. subst (λ js. HasFed b j (seen v) js (xs ++ rs) (front ++ moved.written)) (sym crew)
           (HasFed-moves j (seen w) (seen v) (jobs w) xs rs front t t' at moved put same);
     }
+
+    pub OnOk-moves : {A : Type 0} (answer : Result A Halt) (w v : W) (rs : List Rec) (t t' : Option (List ℕ)) → jobs v ≡ jobs w → OnOk answer (Moves (seen w) (seen v) t t')
+        → OnOk answer ((seen v).put ≡ (seen w).put ++ carried rs) → SameRings (seen w) (seen v) → OnOk answer (Goes stands w rs v t t')
+    OnOk-moves (Ok a) w v rs t t' crew moved put same = Goes-moves w v rs t t' crew moved put same
+    OnOk-moves (Err halt) w v rs t t' crew moved put same = tt
 
     -- it broke off before it took the first of these records
     Halts-breaks : (w v : W) (rs : List Rec) (halt : Halt) (t t' : Option (List ℕ)) → jobs v ≡ jobs w → Breaks (seen w) (seen v) t t'
@@ -158,9 +170,30 @@ Ends-halted : {N : Type 0} (j : Job N) (halt : Halt) (xs : List Rec) (front : Li
 Ends-halted j Write xs front t t' broken = broken
 Ends-halted j NoMemory xs front t t' broken = broken
 
+-- a network without a wrap has no limit
+wraps-over : {N : Type 0} (j : Job N) (xs : List Rec) → (Fine j.does j.tasks j.net xs → ⊥) → (wraps : Bool) → has_wrap j.net ≡ wraps → wraps ≡ true
+wraps-over j xs over true is = refl
+wraps-over j xs over false is = absurd (over (no_wrap_fine j.does j.tasks j.net is xs))
+
+-- where nothing was written, the bytes stay
+Keeps-none : (t t' : Option (List ℕ)) (written : List ℕ) → Appends t t' written → written ≡ [] → Keeps t t'
+Keeps-none None t' written appended none = tt
+Keeps-none (Some xs) None written appended none = absurd appended
+Keeps-none (Some xs) (Some ys) written appended none = appended ∙ ap (λ l. xs ++ l) none ∙ append-nil xs
+
 -- a report is no fault
 ok_err : {report : Report} {fault : RunFault} → Ok report ≡ Err fault → ⊥
 ok_err both = cc
+
+-- the sink's faults are counted as they were when what came was shown
+pub counts-concluded : {A U : Type 0} (d : Doing U) (shown : Result A Halt) (end : Option End) (over : Bool) (us : List U) (answer : Result Report RunFault)
+    → Concludes d shown end over us answer → (n n' : ℕ) → n' ≡ halt_count n shown → n' ≡ output_count n answer
+counts-concluded d (Err Write) end over us answer concluded n n' counts = counts ∙ ap (λ a. output_count n a) (sym concluded)
+counts-concluded d (Err NoMemory) end over us answer concluded n n' counts = counts ∙ ap (λ a. output_count n a) (sym concluded)
+counts-concluded d (Ok a) end over us (Ok report) concluded n n' counts = counts
+counts-concluded d (Ok a) end over us (Err Tasks) concluded n n' counts = counts
+counts-concluded d (Ok a) end over us (Err WriteFault) concluded n n' counts = absurd concluded
+counts-concluded d (Ok a) end over us (Err NoMemoryFault) concluded n n' counts = counts
 
 module _ {N : Type 0} (b : Behaviour N) (j : Job N) (c c' : CallerState)
     (jobs : List (JobState (UnitOf N))) (xs : List Rec) (front : List ℕ) (at : HasFed b j c jobs xs front) (before : List Message) (us : List (UnitOf N)) (taken : List Message)
@@ -218,50 +251,61 @@ module _ {N : Type 0} (b : Behaviour N) (j : Job N) (c c' : CallerState)
           front (ahead_of (Eos ∷ []) c'.got) (moved.written ++ wrote.put) wrote.back (gots ∙ eos)
           (split wrote.put wrote.back wrote.splits) t t'' (Appends-trans t t' t'' moved.written wrote.put moved.taken wrote.taken)
 
+    -- or a unit was over its limit of tasks, and none of it was
+    pub Ends-over : (Fine j.does j.tasks j.net xs → ⊥) → Moves c c' t t' → Ends j xs front t t' (Err Tasks)
+    Ends-over over moved =
+        let wraps = wraps-over j xs over (has_wrap j.net) refl in record {
+          over = over;
+          nothing = at.waits wraps;
+          untouched = Keeps-none t t' moved.written moved.taken (moved.waits (at.holds ∙ wraps));
+        }
+
     -- and the jobs handled all records
     pub WorkedThrough-ended : WorkedThrough j xs worked worked'
     WorkedThrough-ended = WorkedThrough-joined b j jobs at.made before us taken worked worked' joined xs closed-put (AllEnded b us all)
 
   -- it ended without a report
-  pub Ends-unreported : {A : Type 0} (shown : Result A Halt) (end : Option End) (fault : RunFault) → Concludes (net_does b) shown end us (Err fault)
+  pub Ends-unreported : {A : Type 0} (shown : Result A Halt) (end : Option End) (over : Bool) (fault : RunFault) → Concludes (net_does b) shown end over us (Err fault)
+      → (over ≡ true → Fine j.does j.tasks j.net xs → ⊥)
       → OnOk shown (c'.put ≡ c.put ++ Eos ∷ []) → OnOk shown (Moves c c' t t') → OnErr shown (EndsOnce c.put c'.put) → OnErr shown (Breaks c c' t t')
       → IfErr shown (λ halt. c.holds ≡ true → halt ≡ NoMemory) → Ends j xs front t t' (Err fault)
-  Ends-unreported (Err halt) end fault concluded put moved ends broke starves =
+  Ends-unreported (Err halt) end over fault concluded tells put moved ends broke starves =
       subst (λ (a : Result Report RunFault). Ends j xs front t t' a) (sym concluded) (Ends-broken halt ends broke starves)
-  Ends-unreported (Ok a) end fault concluded put moved ends broke starves =
-      subst (λ (f : RunFault). Ends j xs front t t' (Err f)) (sym concluded) (Ends-short put moved)
+  Ends-unreported (Ok a) end over Tasks concluded tells put moved ends broke starves = Ends-over put concluded.units_ended (tells concluded.over_is) moved
+  Ends-unreported (Ok a) end over WriteFault concluded tells put moved ends broke starves = absurd concluded
+  Ends-unreported (Ok a) end over NoMemoryFault concluded tells put moved ends broke starves = Ends-short put moved
 
   -- it ended with one, and what is held was written, all or a part of it
-  pub Ends-reported : {A : Type 0} (shown : Result A Halt) (end : Option End) (report : Report) → Concludes (net_does b) shown end us (Ok report)
+  pub Ends-reported : {A : Type 0} (shown : Result A Halt) (end : Option End) (over : Bool) (report : Report) → Concludes (net_does b) shown end over us (Ok report)
       → (end ≡ Some EndEos → EndsWithEos c'.got) → OnOk shown (c'.put ≡ c.put ++ Eos ∷ []) → OnOk shown (Moves c c' t t')
       → (t'' : Option (List ℕ)) → Writes c'.text [] t' t'' → Ends j xs front t t'' (Ok report)
-  Ends-reported (Err halt) end report concluded eos put moved t'' wrote = absurd (ok_err concluded)
-  Ends-reported (Ok a) end report concluded eos put moved t'' wrote =
-      Ends-ended put concluded.units_ended report (eos concluded.stream) moved concluded.rejected concluded.kept t'' wrote
+  Ends-reported (Err halt) end over report concluded eos put moved t'' wrote = absurd (ok_err concluded)
+  Ends-reported (Ok a) end over report concluded eos put moved t'' wrote =
+      Ends-ended put concluded.out.units_ended report (eos concluded.out.stream) moved concluded.rejected concluded.kept t'' wrote
 
-  pub Ends-cut : {A : Type 0} (shown : Result A Halt) (end : Option End) (report : Report) → Concludes (net_does b) shown end us (Ok report)
+  pub Ends-cut : {A : Type 0} (shown : Result A Halt) (end : Option End) (over : Bool) (report : Report) → Concludes (net_does b) shown end over us (Ok report)
       → (end ≡ Some EndEos → EndsWithEos c'.got) → OnOk shown (c'.put ≡ c.put ++ Eos ∷ []) → OnOk shown (Moves c c' t t')
       → (t'' : Option (List ℕ)) → WritesSome c'.text t' t'' → Ends j xs front t t'' (Err WriteFault)
-  Ends-cut (Err halt) end report concluded eos put moved t'' wrote = absurd (ok_err concluded)
-  Ends-cut (Ok a) end report concluded eos put moved t'' wrote =
-      Ends-unwritten put concluded.units_ended report (eos concluded.stream) moved concluded.rejected concluded.kept t'' wrote
+  Ends-cut (Err halt) end over report concluded eos put moved t'' wrote = absurd (ok_err concluded)
+  Ends-cut (Ok a) end over report concluded eos put moved t'' wrote =
+      Ends-unwritten put concluded.out.units_ended report (eos concluded.out.stream) moved concluded.rejected concluded.kept t'' wrote
 
-  pub WorkedThrough-concluded : {A : Type 0} (shown : Result A Halt) (end : Option End) (answer : Result Report RunFault)
-      → Concludes (net_does b) shown end us answer → OnOk shown (c'.put ≡ c.put ++ Eos ∷ []) → OnOk answer (WorkedThrough j xs worked worked')
-  WorkedThrough-concluded (Err halt) end answer concluded put = subst (λ (a : Result Report RunFault). OnOk a (WorkedThrough j xs worked worked')) (sym concluded) tt
-  WorkedThrough-concluded (Ok a) end (Ok report) concluded put = WorkedThrough-ended put concluded.units_ended
-  WorkedThrough-concluded (Ok a) end (Err fault) concluded put = tt
+  pub WorkedThrough-concluded : {A : Type 0} (shown : Result A Halt) (end : Option End) (over : Bool) (answer : Result Report RunFault)
+      → Concludes (net_does b) shown end over us answer → OnOk shown (c'.put ≡ c.put ++ Eos ∷ []) → OnOk answer (WorkedThrough j xs worked worked')
+  WorkedThrough-concluded (Err halt) end over answer concluded put = subst (λ (a : Result Report RunFault). OnOk a (WorkedThrough j xs worked worked')) (sym concluded) tt
+  WorkedThrough-concluded (Ok a) end over (Ok report) concluded put = WorkedThrough-ended put concluded.out.units_ended
+  WorkedThrough-concluded (Ok a) end over (Err fault) concluded put = tt
 
 -- the jobs handled all records, wherever a report came of it
 pub WorkedThrough-all : {N A : Type 0} (b : Behaviour N) (c c' : CallerState)
     (jobs : List (JobState (UnitOf N))) (before : List Message) (us : List (UnitOf N)) (taken : List Message)
     (worked worked' : ℕ) → IsJoined (net_does b) before jobs us taken worked worked' → before ≡ c'.put → taken ≡ c'.got
-    → (shown : Result A Halt) (end : Option End) (answer : Result Report RunFault) → Concludes (net_does b) shown end us answer
+    → (shown : Result A Halt) (end : Option End) (over : Bool) (answer : Result Report RunFault) → Concludes (net_does b) shown end over us answer
     → OnOk shown (c'.put ≡ c.put ++ Eos ∷ [])
     → OnOk answer ((j : Job N) (xs : List Rec) (front : List ℕ) → HasFed b j c jobs xs front → WorkedThrough j xs worked worked')
-WorkedThrough-all b c c' jobs before us taken worked worked' joined puts gots shown end (Ok report) concluded put = λ j xs front at.
-    WorkedThrough-concluded b j c c' jobs xs front at before us taken worked worked' joined puts gots None None shown end (Ok report) concluded put
-WorkedThrough-all b c c' jobs before us taken worked worked' joined puts gots shown end (Err fault) concluded put = tt
+WorkedThrough-all b c c' jobs before us taken worked worked' joined puts gots shown end over (Ok report) concluded put = λ j xs front at.
+    WorkedThrough-concluded b j c c' jobs xs front at before us taken worked worked' joined puts gots None None shown end over (Ok report) concluded put
+WorkedThrough-all b c c' jobs before us taken worked worked' joined puts gots shown end over (Err fault) concluded put = tt
 
 -- where Abort was put behind the records
 pub IsOpen-stopped : {N : Type 0} (b : Behaviour N) (j : Job N) (halt : Halt) (c c' : CallerState)

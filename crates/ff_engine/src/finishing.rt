@@ -54,7 +54,8 @@ impl<N: Node + Send + 'static, R: Wait + Drop + Send + 'static> Line<N, R> {
         let end = caller.end();
         let (first, last, mut text) = caller.into_parts();
         let mut units = crew.join(first, last, by);
-        let report = conclude(alloc, shown, end, &mut units)?;
+        // No wrap stands in the network, so that no unit is over its limit of tasks.
+        let report = conclude(alloc, shown, end, false, &mut units)?;
         text.write(sink)?;
         Ok(report)
     }
@@ -77,19 +78,25 @@ impl<N: Node + Send + 'static, R: Wait + Drop + Send + 'static> Line<N, R> {
     }
 }
 
-// The answer of a run whose threads were joined, by whether all that came was shown, and by how the stream and the units
-// ended.
+// The answer of a run whose threads were joined, by whether all that came was printed, by how the stream and the units
+// ended, and by whether one of them is over its limit of tasks.
 fn conclude<U: Unit>(
     alloc: Global,
     shown: Result<(), Halt>,
     end: Option<End>,
+    over: bool,
     units: &mut Vec<U>,
 ) -> Result<Report, RunFault>
-    ensures { Concludes U.does shown end units.old.items result }
+    ensures { Concludes U.does shown end over units.old.items result }
 {
     match (shown, end) {
         (Err(halt), _) => Err(halt.into()),
-        (Ok(()), Some(End::Eos)) if all_ended_by_eos(units) => Ok(report_of(alloc, units)?),
+        (Ok(()), Some(End::Eos)) if all_ended_by_eos(units) => {
+            if over {
+                return Err(RunFault::Tasks);
+            }
+            Ok(report_of(alloc, units)?)
+        }
         _ => Err(RunFault::NoMemory),
     }
 }

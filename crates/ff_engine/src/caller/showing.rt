@@ -138,11 +138,21 @@ impl Caller {
         };
         if let Msg::Item(r) = m {
             self.text.print(&r)?;
-            if !self.holds {
-                self.text.write_full(sink)?;
-            }
+            self.write_much(sink)?;
         }
         Ok(true)
+    }
+
+    // Writes what came where it is much, unless it is held.
+    fn write_much<O: Sink>(&mut self, sink: &mut O) -> Result<(), Halt>
+        ensures put { (caller_of self.new).put ≡ (caller_of self.old).put }
+        ensures goes { GoesOn (caller_of self.old) result (caller_of self.new)
+            (O.taken sink.old) (O.taken sink.new) (O.faults sink.old) (O.faults sink.new) }
+    {
+        if self.holds {
+            return Ok(());
+        }
+        Ok(self.text.write_full(sink)?)
     }
 
     /// Takes what comes up to the end. Nothing of it is shown.
