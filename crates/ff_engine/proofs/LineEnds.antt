@@ -1,6 +1,7 @@
 -- How a line of threads takes records, and how it ends, in the words of a run.
 use Rattle.std.proofs.Common.{◌≡◌, ℕ, Bool, true, false, List, [], ◌∷◌, ◌++◌, Some, refl, sym, ap, ap₂, ◌∙◌, inl, inr, subst, append_assoc, append-nil}
 use Rattle.std.proofs.KnownBytes.{Appends-nil, Appends-trans}
+use Rattle.std.proofs.lemmas.Bool.{both_ways}
 use Rattle.std.proofs.lemmas.Grind.{flat_map-append}
 use Rattle.std.proofs.lemmas.List.{map-append}
 use Rattle.std.specs.Io.KnownBytes.{Appends, Keeps}
@@ -17,9 +18,9 @@ use Rattle.ff_net.specs.Forms.{has_wrap}
 use Rattle.ff_net.specs.Meaning.{Fine}
 use Rattle.ff_plan.proofs.MeanPlain.{no_wrap_fine}
 use Rattle.ff_port.specs.declared.answers.End.{End}
-use Rattle.ff_port.specs.declared.answers.End.TheVariants.{Eos as EndEos}
+use Rattle.ff_port.specs.declared.answers.End.TheVariants.{Eos as EndEos, Abort as EndAbort, Memory as EndMemory}
 use Rattle.ff_ring.specs.Bundles.{ahead_of}
-use Rattle.ff_steps.specs.NetUnits.{net_does}
+use Rattle.ff_steps.specs.NetUnits.{net_does, any_over}
 use Rattle.ff_stream.specs.Endings.{halted, output_count}
 use Rattle.ff_stream.specs.Jobs.{Job}
 use Rattle.ff_stream.specs.Texts.{Writes, WritesSome}
@@ -38,7 +39,7 @@ use Rattle.ff_engine.specs.Ends.{ends_by_eos}
 use Rattle.ff_engine.specs.Jobs.{JobState}
 use Rattle.ff_engine.specs.Lines.{Linked}
 use Rattle.ff_engine.specs.Networks.{UnitOf, HasFed, HasStopped, WorkedThrough}
-use Rattle.ff_engine.proofs.LineRuns.{AllEnded, Begun-joined, HasBroken-joined, IsOpen-joined, RunEnded-joined, WorkedThrough-joined}
+use Rattle.ff_engine.proofs.LineRuns.{AllEnded, Begun-joined, HasBroken-joined, IsOpen-joined, Over-joined, RunEnded-joined, WorkedThrough-joined}
 
 -- what holds at every answer
 pub on_err : {A E P : Type 0} (answer : Result A E) → P → OnErr answer P
@@ -181,6 +182,13 @@ Keeps-none None t' written appended none = tt
 Keeps-none (Some xs) None written appended none = absurd appended
 Keeps-none (Some xs) (Some ys) written appended none = appended ∙ ap (λ l. xs ++ l) none ∙ append-nil xs
 
+-- an end by Eos
+by-eos : (end : Option End) → ends_by_eos end ≡ true → end ≡ Some EndEos
+by-eos None is = absurd (both_ways false refl is)
+by-eos (Some EndEos) is = refl
+by-eos (Some EndAbort) is = absurd (both_ways false refl is)
+by-eos (Some EndMemory) is = absurd (both_ways false refl is)
+
 -- a report is no fault
 ok_err : {report : Report} {fault : RunFault} → Ok report ≡ Err fault → ⊥
 ok_err both = cc
@@ -228,7 +236,7 @@ module _ {N : Type 0} (b : Behaviour N) (j : Job N) (c c' : CallerState)
     closed-put : before ≡ carried xs ++ Eos ∷ []
     closed-put = puts ∙ put ∙ ap (λ ms. ms ++ Eos ∷ []) at.put
 
-    module _ (report : Report) (eos : EndsWithEos c'.got) (moved : Moves c c' t t') (number : report.rejected ≡ counted (sum_by (net_does b).rejects us))
+    module _ (within : any_over us ≡ false) (report : Report) (eos : EndsWithEos c'.got) (moved : Moves c c' t t') (number : report.rejected ≡ counted (sum_by (net_does b).rejects us))
         (kept : report.kept ≡ flat_map (net_does b).kept us) where
       -- what came, behind what was written and before what is held
       split : (put back : List ℕ) → c'.text ≡ put ++ back → text (items taken) ≡ (front ++ (moved.written ++ put)) ++ back
@@ -239,7 +247,7 @@ module _ {N : Type 0} (b : Behaviour N) (j : Job N) (c c' : CallerState)
       -- all that came was printed, to the end, and all of it was written
       pub Ends-ended : (t'' : Option (List ℕ)) → Writes c'.text [] t' t'' → Ends j xs front t t'' (Ok report)
       Ends-ended t'' wrote =
-          RunEnded-joined b j jobs at.made before us taken worked worked' joined xs closed-put (AllEnded b us all) report number kept
+          RunEnded-joined b j jobs at.made before us taken worked worked' joined xs closed-put (AllEnded b us all) within report number kept
           front (ahead_of (Eos ∷ []) c'.got) (moved.written ++ wrote.put) (gots ∙ eos)
           (split wrote.put [] wrote.splits ∙ append-nil (front ++ (moved.written ++ wrote.put))) t t''
           (Appends-trans t t' t'' moved.written wrote.put moved.taken wrote.taken)
@@ -247,13 +255,14 @@ module _ {N : Type 0} (b : Behaviour N) (j : Job N) (c c' : CallerState)
       -- or a part of it
       pub Ends-unwritten : (t'' : Option (List ℕ)) → WritesSome c'.text t' t'' → Ends j xs front t t'' (Err WriteFault)
       Ends-unwritten t'' wrote =
-          HasBroken-joined b j jobs at.made before us taken worked worked' joined xs closed-put (AllEnded b us all)
+          HasBroken-joined b j jobs at.made before us taken worked worked' joined xs closed-put (AllEnded b us all) within
           front (ahead_of (Eos ∷ []) c'.got) (moved.written ++ wrote.put) wrote.back (gots ∙ eos)
           (split wrote.put wrote.back wrote.splits) t t'' (Appends-trans t t' t'' moved.written wrote.put moved.taken wrote.taken)
 
     -- or a unit was over its limit of tasks, and none of it was
-    pub Ends-over : (Fine j.does j.tasks j.net xs → ⊥) → Moves c c' t t' → Ends j xs front t t' (Err Tasks)
-    Ends-over over moved =
+    pub Ends-over : any_over us ≡ true → Moves c c' t t' → Ends j xs front t t' (Err Tasks)
+    Ends-over is_over moved =
+        let over : Fine j.does j.tasks j.net xs → ⊥ = Over-joined b j jobs at.made before us taken worked worked' joined xs closed-put (AllEnded b us all) is_over in
         let wraps = wraps-over j xs over (has_wrap j.net) refl in record {
           over = over;
           nothing = at.waits wraps;
@@ -266,29 +275,29 @@ module _ {N : Type 0} (b : Behaviour N) (j : Job N) (c c' : CallerState)
 
   -- it ended without a report
   pub Ends-unreported : {A : Type 0} (shown : Result A Halt) (end : Option End) (over : Bool) (fault : RunFault) → Concludes (net_does b) shown end over us (Err fault)
-      → (over ≡ true → Fine j.does j.tasks j.net xs → ⊥)
+      → over ≡ any_over us
       → OnOk shown (c'.put ≡ c.put ++ Eos ∷ []) → OnOk shown (Moves c c' t t') → OnErr shown (EndsOnce c.put c'.put) → OnErr shown (Breaks c c' t t')
       → IfErr shown (λ halt. c.holds ≡ true → halt ≡ NoMemory) → Ends j xs front t t' (Err fault)
-  Ends-unreported (Err halt) end over fault concluded tells put moved ends broke starves =
+  Ends-unreported (Err halt) end over fault concluded is put moved ends broke starves =
       subst (λ (a : Result Report RunFault). Ends j xs front t t' a) (sym concluded) (Ends-broken halt ends broke starves)
-  Ends-unreported (Ok a) end over Tasks concluded tells put moved ends broke starves = Ends-over put concluded.units_ended (tells concluded.over_is) moved
-  Ends-unreported (Ok a) end over WriteFault concluded tells put moved ends broke starves = absurd concluded
-  Ends-unreported (Ok a) end over NoMemoryFault concluded tells put moved ends broke starves = Ends-short put moved
+  Ends-unreported (Ok a) end over Tasks concluded is put moved ends broke starves = Ends-over put concluded.units_ended (sym is ∙ concluded.over_is) moved
+  Ends-unreported (Ok a) end over WriteFault concluded is put moved ends broke starves = absurd concluded
+  Ends-unreported (Ok a) end over NoMemoryFault concluded is put moved ends broke starves = Ends-short put moved
 
   -- it ended with one, and what is held was written, all or a part of it
-  pub Ends-reported : {A : Type 0} (shown : Result A Halt) (end : Option End) (over : Bool) (report : Report) → Concludes (net_does b) shown end over us (Ok report)
+  pub Ends-reported : {A : Type 0} (shown : Result A Halt) (end : Option End) (over : Bool) (report : Report) → Concludes (net_does b) shown end over us (Ok report) → over ≡ any_over us
       → (end ≡ Some EndEos → EndsWithEos c'.got) → OnOk shown (c'.put ≡ c.put ++ Eos ∷ []) → OnOk shown (Moves c c' t t')
       → (t'' : Option (List ℕ)) → Writes c'.text [] t' t'' → Ends j xs front t t'' (Ok report)
-  Ends-reported (Err halt) end over report concluded eos put moved t'' wrote = absurd (ok_err concluded)
-  Ends-reported (Ok a) end over report concluded eos put moved t'' wrote =
-      Ends-ended put concluded.out.units_ended report (eos concluded.out.stream) moved concluded.rejected concluded.kept t'' wrote
+  Ends-reported (Err halt) end over report concluded is eos put moved t'' wrote = absurd (ok_err concluded)
+  Ends-reported (Ok a) end over report concluded is eos put moved t'' wrote =
+      Ends-ended put concluded.out.units_ended (sym is ∙ concluded.out.over_is) report (eos (by-eos end concluded.out.stream)) moved concluded.rejected concluded.kept t'' wrote
 
-  pub Ends-cut : {A : Type 0} (shown : Result A Halt) (end : Option End) (over : Bool) (report : Report) → Concludes (net_does b) shown end over us (Ok report)
+  pub Ends-cut : {A : Type 0} (shown : Result A Halt) (end : Option End) (over : Bool) (report : Report) → Concludes (net_does b) shown end over us (Ok report) → over ≡ any_over us
       → (end ≡ Some EndEos → EndsWithEos c'.got) → OnOk shown (c'.put ≡ c.put ++ Eos ∷ []) → OnOk shown (Moves c c' t t')
       → (t'' : Option (List ℕ)) → WritesSome c'.text t' t'' → Ends j xs front t t'' (Err WriteFault)
-  Ends-cut (Err halt) end over report concluded eos put moved t'' wrote = absurd (ok_err concluded)
-  Ends-cut (Ok a) end over report concluded eos put moved t'' wrote =
-      Ends-unwritten put concluded.out.units_ended report (eos concluded.out.stream) moved concluded.rejected concluded.kept t'' wrote
+  Ends-cut (Err halt) end over report concluded is eos put moved t'' wrote = absurd (ok_err concluded)
+  Ends-cut (Ok a) end over report concluded is eos put moved t'' wrote =
+      Ends-unwritten put concluded.out.units_ended (sym is ∙ concluded.out.over_is) report (eos (by-eos end concluded.out.stream)) moved concluded.rejected concluded.kept t'' wrote
 
   pub WorkedThrough-concluded : {A : Type 0} (shown : Result A Halt) (end : Option End) (over : Bool) (answer : Result Report RunFault)
       → Concludes (net_does b) shown end over us answer → OnOk shown (c'.put ≡ c.put ++ Eos ∷ []) → OnOk answer (WorkedThrough j xs worked worked')

@@ -1,5 +1,5 @@
 -- The jobs that stand for a network, and how far a run by threads has come.
-use Rattle.std.specs.Prelude.{◌≡◌, ℕ, ◌+◌, ◌≤◌, true, false, List, [], ◌++◌, map, length}
+use Rattle.std.specs.Prelude.{◌≡◌, ℕ, ◌+◌, ◌≤◌, true, List, [], ◌++◌, map, length}
 use Rattle.ff_rec.specs.Lines.{Rec, text}
 use Rattle.ff_rec.specs.Streams.{items, carried}
 use Rattle.ff_node.specs.Behaviour.{Behaviour, KeepsKind}
@@ -35,9 +35,8 @@ pub record HasLaws {N : Type 0} (b : Behaviour N) (net : Tree N) : Type 0 where
 -- these jobs were made of the network of a run, by its plan
 pub record AreJobsOf {N : Type 0} (b : Behaviour N) (j : Job N) (jobs : List (JobState (UnitOf N))) : Type 0 where
   pub does_is : j.does ≡ b
-  pub whole : has_wrap j.net ≡ false
   pub laws : HasLaws b j.net
-  pub units_are : map (λ job. job.unit) jobs ≡ opened_units b j.keep j.net
+  pub units_are : map (λ job. job.unit) jobs ≡ opened_units b j.tasks j.keep j.net
   pub rows_are : map (λ job. job.row) jobs ≡ rows_of j.net
 
 -- the records were put on the first ring, and these bytes were written of what came: none with a wrap, whose text is held

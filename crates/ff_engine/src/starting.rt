@@ -1,6 +1,5 @@
 // How the units of a network come into threads.
-ghost use Rattle.std.specs.Prelude.{◌≡◌, ◌≤◌, ◌+◌, [], false, length, map, vec_len, vec_capacity, All, IfOk, OnOk};
-ghost use Rattle.ff_net.specs.Forms.{has_wrap};
+ghost use Rattle.std.specs.Prelude.{◌≡◌, ◌≤◌, ◌+◌, [], length, map, vec_len, vec_capacity, All, IfOk, OnOk};
 ghost use Rattle.ff_net.specs.Tree.{tree_of};
 ghost use Rattle.ff_spawn.specs.Counts.{count_more, denied_after};
 ghost use Rattle.ff_engine.specs.Jobs.{IsFresh};
@@ -32,18 +31,18 @@ pub(crate) fn prepare<N: Node + Send + 'static, R: Wait + Clone + Drop + Send + 
     alloc: Global,
     checked: &Checked<N>,
     cap: u32,
+    limit: u64,
     keep: bool,
 ) -> Result<Prepared<NetUnit<N>, R>, NoMemory>
-    requires runs { has_wrap (tree_of checked.now.net) ≡ false }
     requires low { 1 ≤ cap }
     requires high { cap ≤ 4096 }
-    ensures { IfOk result (λ p. IsPrepared N.does keep (tree_of checked.now.net) (caller_of p.caller)
+    ensures { IfOk result (λ p. IsPrepared N.does limit keep (tree_of checked.now.net) (caller_of p.caller)
         p.jobs.items p.units.items (vec_capacity p.units) p.running.jobs p.running.room
         (length p.board.ins.items) (length p.board.outs.items)) }
 {
     plans_keep_laws(checked);
     plans_are_wired(checked);
-    let units = make_units(alloc, checked, keep)?;
+    let units = make_units(alloc, checked, limit, keep)?;
     let room = Vec::with_capacity(alloc, units.len())?;
     let bells = Bells::new(alloc, units.len())?;
     let (rows, edges) = plan(alloc, checked, cap, Queue::Ring)?.into_parts();

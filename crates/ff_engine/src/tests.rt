@@ -4,3 +4,4 @@ mod lines;
 mod meeting;
 mod runs;
 mod slow;
+mod wraps;

@@ -26,7 +26,7 @@ link_units-requires-clause-opened g c =
     let rows : c.into_parts-rows.result.0.items ≡ rows_of t = c.into_parts-rows.ensures.units ∙ ap (λ (p : Plan). p.units) c.in_ok-plan.ensures in
     subst (λ rs. AllZip (λ r u. IsOpened (net_does b) r u) rs c.in_ok-units.units.items) (sym rows)
     (subst (λ us. AllZip (λ r u. IsOpened (net_does b) r u) (rows_of t) us) (sym c.in_ok-units.ensures.units)
-    (IsOpened-units b c.args.keep laws.kind t c.requires.runs laws.good))
+    (IsOpened-units b c.args.limit c.args.keep laws.kind t laws.good))
 
 pub link_units-requires-clause-wired : goal.link_units-requires-clause-wired
 link_units-requires-clause-wired g c =

@@ -1,8 +1,7 @@
 -- The stream came to its end and the text was written, or it broke off.
 use denote.Param.Send.{sendable}
 use Rattle.std.proofs.Crossing.{crosses}
-use Rattle.std.proofs.Common.{◌≡◌, ℕ, List, false, Ok, Err, [], refl, ap, ◌∙◌, subst}
-use Rattle.std.proofs.lemmas.Bool.{both_ways}
+use Rattle.std.proofs.Common.{◌≡◌, ℕ, List, Ok, Err, [], ap, ◌∙◌, subst}
 use Rattle.std.proofs.lemmas.Result.{err_from_is_err_and}
 use Rattle.ff_rec.specs.Counts.{more}
 use Rattle.ff_ring.specs.Ends.{got_of, put_of}
@@ -27,7 +26,7 @@ returns-in_err-report-clause-ends g c =
     (put_of c.into_parts-first.result.0) c.join-units.result.items (got_of c.into_parts-first.result.1) _ _ c.join-units.ensures.joined
     (c.into_parts-first.ensures.put ∙ ap (λ s. s.put) c.hand_over.ensures)
     (c.into_parts-first.ensures.got ∙ ap (λ s. s.got) c.hand_over.ensures) _ _
-    shown.result c.end-end.result false _ c.in_err-report.ensures (λ is. absurd (both_ways false refl is))
+    shown.result c.end-end.result c.any_over-over.result _ c.in_err-report.ensures c.any_over-over.ensures
     shown.ensures.put shown.ensures.goes.moves shown.ensures.ends shown.ensures.goes.breaks shown.ensures.goes.starves)
 
 pub returns-in_err-report-clause-counts : goal.returns-in_err-report-clause-counts
@@ -35,7 +34,7 @@ returns-in_err-report-clause-counts g c =
     let p = err_from_is_err_and c.from_residual.result c.from_residual.ensures.1 in
     let shown = c.close-shown in
     rw (p.1 ∙ ap (λ fault. Err fault) p.2)
-    (counts-concluded (net_does g.N.Node.does) shown.result c.end-end.result false c.join-units.result.items _ c.in_err-report.ensures _ _ shown.ensures.goes.counts)
+    (counts-concluded (net_does g.N.Node.does) shown.result c.end-end.result c.any_over-over.result c.join-units.result.items _ c.in_err-report.ensures _ _ shown.ensures.goes.counts)
 
 pub returns-in_err-write-clause-ends : goal.returns-in_err-write-clause-ends
 returns-in_err-write-clause-ends g c =
@@ -47,7 +46,7 @@ returns-in_err-write-clause-ends g c =
     (put_of c.into_parts-first.result.0) c.join-units.result.items (got_of c.into_parts-first.result.1) _ _ c.join-units.ensures.joined
     (c.into_parts-first.ensures.put ∙ ap (λ s. s.put) c.hand_over.ensures)
     (c.into_parts-first.ensures.got ∙ ap (λ s. s.got) c.hand_over.ensures) _ _
-    shown.result c.end-end.result false _ c.in_ok-report.ensures
+    shown.result c.end-end.result c.any_over-over.result _ c.in_ok-report.ensures c.any_over-over.ensures
     (λ eos. subst (λ s. EndsWithEos s.got) c.hand_over.ensures (c.end-end.ensures.eos eos))
     shown.ensures.put shown.ensures.goes.moves _
     (subst (λ (l : List ℕ). WritesSome l (g.O.Sink.taken shown.new.sink) (g.O.Sink.taken c.write.new.sink))
@@ -59,7 +58,7 @@ returns-in_err-write-clause-counts g c =
     let shown = c.close-shown in
     rw (p.1 ∙ ap (λ fault. Err fault) p.2)
     (c.in_err-write.ensures.counts
-    ∙ ap more (counts-concluded (net_does g.N.Node.does) shown.result c.end-end.result false c.join-units.result.items _ c.in_ok-report.ensures _ _ shown.ensures.goes.counts))
+    ∙ ap more (counts-concluded (net_does g.N.Node.does) shown.result c.end-end.result c.any_over-over.result c.join-units.result.items _ c.in_ok-report.ensures _ _ shown.ensures.goes.counts))
 
 pub returns-in_ok-write-clause-ends : goal.returns-in_ok-write-clause-ends
 returns-in_ok-write-clause-ends g c =
@@ -69,7 +68,7 @@ returns-in_ok-write-clause-ends g c =
     (put_of c.into_parts-first.result.0) c.join-units.result.items (got_of c.into_parts-first.result.1) _ _ c.join-units.ensures.joined
     (c.into_parts-first.ensures.put ∙ ap (λ s. s.put) c.hand_over.ensures)
     (c.into_parts-first.ensures.got ∙ ap (λ s. s.got) c.hand_over.ensures) _ _
-    shown.result c.end-end.result false _ c.in_ok-report.ensures
+    shown.result c.end-end.result c.any_over-over.result _ c.in_ok-report.ensures c.any_over-over.ensures
     (λ eos. subst (λ s. EndsWithEos s.got) c.hand_over.ensures (c.end-end.ensures.eos eos))
     shown.ensures.put shown.ensures.goes.moves _
     (subst (λ (l : List ℕ). Writes l [] (g.O.Sink.taken shown.new.sink) (g.O.Sink.taken c.write.new.sink))
@@ -83,13 +82,13 @@ returns-in_ok-write-clause-work g c =
     (put_of c.into_parts-first.result.0) c.join-units.result.items (got_of c.into_parts-first.result.1) _ _ c.join-units.ensures.joined
     (c.into_parts-first.ensures.put ∙ ap (λ s. s.put) c.hand_over.ensures)
     (c.into_parts-first.ensures.got ∙ ap (λ s. s.got) c.hand_over.ensures)
-    shown.result c.end-end.result false (Ok c.in_ok-report.report) c.in_ok-report.ensures shown.ensures.put
+    shown.result c.end-end.result c.any_over-over.result (Ok c.in_ok-report.report) c.in_ok-report.ensures shown.ensures.put
 
 pub returns-in_ok-write-clause-counts : goal.returns-in_ok-write-clause-counts
 returns-in_ok-write-clause-counts g c =
     let shown = c.close-shown in
     c.in_ok-write.ensures.counts
-    ∙ counts-concluded (net_does g.N.Node.does) shown.result c.end-end.result false c.join-units.result.items (Ok c.in_ok-report.report) c.in_ok-report.ensures _ _ shown.ensures.goes.counts
+    ∙ counts-concluded (net_does g.N.Node.does) shown.result c.end-end.result c.any_over-over.result c.join-units.result.items (Ok c.in_ok-report.report) c.in_ok-report.ensures _ _ shown.ensures.goes.counts
 
 pub join-units-requires-send-U : goal.join-units-requires-send-U
 join-units-requires-send-U g c κs within = let u = IsSend-unit _ c.type_bounds.send-N in search (sendable, crosses) depth 20
