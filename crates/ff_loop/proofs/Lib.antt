@@ -10,3 +10,4 @@ pub mod WorkIdles
 pub mod WorkViews
 pub mod WrapLogs
 pub mod RoundSteps
+pub mod NextSteps

@@ -1,14 +1,13 @@
--- A master is idle exactly where its log is done, and one that did nothing holds nothing.
-use Rattle.std.proofs.Common.{ℕ, ◌<◌, [], length, get_or, replicate, refl, sym, ap, subst, arith, length-append}
-use Rattle.std.proofs.lemmas.List.{length-replicate, get_or-replicate}
+-- A master is idle exactly where its log is done.
+use Rattle.std.proofs.Common.{[], length, get_or, sym, ap, subst, arith, length-append}
 use Rattle.std.specs.List.{concat}
 use Rattle.ff_rec.specs.Weights.{Same, weigh}
 use Rattle.ff_rec.proofs.WeightLaws.{weigh-append, weigh-one}
-use Rattle.ff_loop.specs.Events.{given, backs, NoneOut, IsIdle}
+use Rattle.ff_loop.specs.Events.{given, backs, IsIdle}
 use Rattle.ff_loop.specs.Scheduling.{Scheduling, IsScheduling, made_by}
 use Rattle.ff_loop.specs.Moves.{numbers_from, IsDone}
-use Rattle.ff_loop.specs.Masters.{MasterState, opened_master, IsKept}
-use Rattle.ff_loop.proofs.Queues.{concat-at, concat-none, concat-empty}
+use Rattle.ff_loop.specs.Masters.{MasterState, IsKept}
+use Rattle.ff_loop.proofs.Queues.{concat-at, concat-empty}
 use Rattle.ff_loop.proofs.MasterCounts.{numbers_to-length, numbers_from-length}
 use Rattle.ff_loop.proofs.MasterSteps.{held-length}
 
@@ -54,22 +53,3 @@ module _ {T A S : Type 0} (d : Scheduling T A S) where
       );
     },
   )
-
-  -- a master that did nothing yet
-  pub IsKept-opened : (s : S) (n : ℕ) → IsScheduling d → d.IsRight s → NoneOut (d.events s) → IsKept d (opened_master s n)
-  IsKept-opened s n sound right none_out = record {
-    right = right;
-    kind = refl;
-    events = refl;
-    queues = λ j under. sym (get_or-replicate n j [] [] (subst (λ k. j < k) (length-replicate n []) under));
-    balance = record {
-      by = λ h. omega (
-        arith,
-        (sound.keeps_numbers s right).by h,
-        none_out.by h,
-        weigh-append h (backs (d.events s)) (concat (replicate n [])),
-        ap (weigh h) (concat-none n),
-      );
-    };
-    legal = tt;
-  }

@@ -6,8 +6,9 @@ use Rattle.ff_loop.specs.Events.{Offered, Given, Back, IsReady, IsOut, NoneOut, 
 use Rattle.ff_loop.specs.Scheduling.{Scheduling, IsScheduling, Goes, made_by}
 use Rattle.ff_loop.specs.Moves.{Move, Fed, Gave, Got, asked, answered, IsDone}
 use Rattle.ff_loop.specs.Masters.{MasterState, IsKept, Moves}
+use Rattle.ff_loop.specs.MasterLaws.{IsKept-opened}
 use Rattle.ff_loop.proofs.MasterSteps.{Moves-fed, Moves-gave, IsOut-first, held-length, owed-held, Moves-got}
-use Rattle.ff_loop.proofs.MasterEnds.{IsDone-idle, IsIdle-done, IsKept-opened}
+use Rattle.ff_loop.proofs.MasterEnds.{IsDone-idle, IsIdle-done}
 
 -- a master by its parts
 abbrev state : {T A S : Type 0} → S → S → List (List ℕ) → List (Move T A) → MasterState T A S

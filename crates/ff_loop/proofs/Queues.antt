@@ -1,5 +1,5 @@
 -- Lists of queues, of which one is changed.
-use Rattle.std.proofs.Common.{◌≡◌, ℕ, zero, suc, ◌+◌, ◌<◌, ◌≤◌, ◌==◌, if◌then◌else◌, List, [], ◌∷◌, ◌++◌, length, get_or, replicate, refl, sym, ap, subst, ◌∙◌, inl, inr, append_assoc, append-nil, arith}
+use Rattle.std.proofs.Common.{◌≡◌, ℕ, zero, suc, ◌+◌, ◌<◌, ◌≤◌, ◌==◌, if◌then◌else◌, List, [], ◌∷◌, ◌++◌, length, get_or, refl, sym, ap, subst, ◌∙◌, inl, inr, append_assoc, append-nil, arith}
 use Rattle.std.proofs.Math.ListN.{set}
 use Rattle.std.proofs.lemmas.Bool.{cases_Bool, cond-true, cond-false, eqb-true, eqb-false}
 use Rattle.std.proofs.lemmas.List.{get_or-set_same, get_or-set_other, nil_from_length}
@@ -20,11 +20,6 @@ concat-set h [] w ys below = absurd (omega arith)
 concat-set h (xs ∷ xss) zero ys below = omega (arith, weigh-append h xs (concat xss), weigh-append h ys (concat xss))
 concat-set h (xs ∷ xss) (suc w) ys below =
     omega (arith, weigh-append h xs (concat xss), weigh-append h xs (concat (set xss w ys)), concat-set h xss w ys (omega arith))
-
--- nothing in queues that hold nothing
-pub concat-none : (n : ℕ) → concat (replicate n []) ≡ []
-concat-none zero = refl
-concat-none (suc n) = concat-none n
 
 -- nothing in queues of which each is empty
 pub concat-empty : (xss : List (List ℕ)) → ((j : ℕ) → j < length xss → length (get_or xss j []) ≡ 0) → concat xss ≡ []

@@ -11,6 +11,7 @@ use Rattle.ff_loop.specs.Scheduling.{made_by}
 use Rattle.ff_loop.specs.Moves.{Move, Gave, events_on, asked, answered, IsLegal, IsDone}
 use Rattle.ff_loop.specs.Masters.{opened_master, IsKept, Moves, Rests, Gives}
 use Rattle.ff_loop.specs.Worklists.{WorkState, came, came_out, work_made, IsOverLimit, Holds, TakesHeld, opened_work, work_does}
+use Rattle.ff_loop.specs.WorkLaws.{IsScheduling-work}
 use Rattle.ff_loop.specs.Rounds.{RoundState, wrap_log, test_of, limit_of, workers_of, log_of, taken_of, results_of, IsRound, IsLogged, GoesRound, IsOpened, GivesTask, TakesOut}
 use Rattle.ff_loop.proofs.WrapLogs.{given-wrap, came-wrap, came_out-wrap, made-wrap, asked-length, answered-length, IsLegal-wrap, IsDone-wrap, IsDone-unwrap}
 
@@ -55,6 +56,8 @@ module _ (s : RoundState) (round : IsRound s) where
   IsLogged-round = record {
     legal = IsLegal-wrap (workers_of s) (limit_of s) (test_of s) s.log
         (subst (λ e. IsLegal (workers_of s) (work_made (test_of s) (limit_of s)) e s.log) round.none_before round.kept.legal);
+    given_came = subst (λ xs. Within xs (nets.made (limit_of s) (test_of s) (log_of s))) given-is
+        (subst (Within (given s.scheduler.events)) made-is (IsScheduling-work.keeps_given s.scheduler round.kept.right));
     results = results-within s.scheduler.over round.kept.right.holds;
     dropped = results-past s.scheduler.over round.kept.right.holds;
   }

@@ -49,6 +49,8 @@ pub record IsRound (s : RoundState) : Type 0 where
 -- held are all results, in their order
 pub record IsLogged (s : RoundState) : Type 0 where
   pub legal : IsLegal (workers_of s) (limit_of s) (test_of s) (log_of s)
+  -- each task that was given came
+  pub given_came : Within (given (log_of s)) (made (limit_of s) (test_of s) (log_of s))
   pub results : length (came (test_of s) (log_of s)) ≤ limit_of s → taken_of s ++ results_of s ≡ came_out (test_of s) (log_of s)
   -- past the limit no result is held
   pub dropped : limit_of s < length (came (test_of s) (log_of s)) → results_of s ≡ []

@@ -4,7 +4,7 @@ use Rattle.std.proofs.Common.{true, List, [], ◌∷◌, ◌++◌, length, map, 
 use Rattle.std.proofs.lemmas.Bool.{false≢true}
 use Rattle.std.specs.List.{AllByRecursion, flat_map}
 use Rattle.ff_rec.specs.Streams.{IsOpen, GoesOn, at, items, closed, unaborted}
-use Rattle.ff_rec.specs.declared.msg.Msg.TheVariants.{Eos as EosMsg}
+use Rattle.ff_rec.specs.declared.msg.Msg.TheVariants.{Mark, Eos as EosMsg}
 use Rattle.ff_node.specs.Behaviour.{Behaviour, KeepsKind, node_rejected}
 use Rattle.ff_node.specs.Classes.{ClassLaw}
 use Rattle.ff_node.specs.Fits.{FitsStage, FitsWorker, IsItemOrMark, replaced}
@@ -16,6 +16,7 @@ use Rattle.ff_unit.specs.MessageLaws.{IsOpen-front, unaborted-append}
 use Rattle.ff_unit.specs.Stage.{StageState}
 use Rattle.ff_unit.specs.StageAbortLaws.{Leads-aborted_stage}
 use Rattle.ff_unit.specs.StageKeptLaws as stages
+use Rattle.ff_unit.specs.StageKindLaws.{opening_stage-step, taken-step, told-step}
 use Rattle.ff_unit.specs.StageLaws.{IsUnit-stage}
 use Rattle.ff_unit.specs.StagePorts.{StageReady}
 use Rattle.ff_unit.specs.StageTiedLaws.{TiedAt}
@@ -25,7 +26,6 @@ use Rattle.ff_unit.specs.declared.mode.Mode.TheVariants.{Live}
 use Rattle.ff_loop.specs.WorkerMarkLaws.{with_marks, with_marks-append, with_marks-unaborted, items-with_marks, IsOpen-with_marks, HasAbort-with_marks, IsItemOrMark-with_marks, replaced-with_marks, with_marks-closed}
 use Rattle.ff_loop.specs.WorkerTakesLaws.{IsLevel, IsMarkedAt}
 use Rattle.ff_loop.specs.WorkerUnit.{worker_does}
-use Rattle.ff_loop.specs.WorkerKindLaws.{opening-step, taken-kept, told-kept}
 use Rattle.ff_loop.specs.WorkerPortLaws.{IsMarkedRun, node-at, level-at, ins-at, HasRun-marked}
 
 -- a stage that fits with the Marks: for each task its sends and a Mark
@@ -179,9 +179,9 @@ module _ {N : Type 0} (b : Behaviour N) (kind : KeepsKind b) (law : (o : N) → 
 
   pub IsUnit-worker : IsUnit (worker_does b)
   IsUnit-worker = record {
-    opening_kept = opening-step b kind;
-    taken_kept = taken-kept b kind;
-    told_kept = told-kept b kind;
+    opening_kept = opening_stage-step b (Mark ∷ []) kind;
+    taken_kept = taken-step b (Mark ∷ []) kind;
+    told_kept = told-step b (Mark ∷ []) kind;
     opened = λ u. (refl, refl, refl);
     ready = ready-worker;
     ends = λ u gots puts ran done. ((ready-worker u gots puts ran).ended done).1;
@@ -189,5 +189,5 @@ module _ {N : Type 0} (b : Behaviour N) (kind : KeepsKind b) (law : (o : N) → 
     whole = whole-worker;
     rejects_are = rejects-worker;
     causes = causes-worker;
-    aborts_by = Leads-aborted_stage b;
+    aborts_by = Leads-aborted_stage b (Mark ∷ []);
   }

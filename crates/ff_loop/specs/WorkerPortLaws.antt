@@ -10,9 +10,9 @@ use Rattle.ff_unit.specs.Stage.{StageState, opening_stage}
 use Rattle.ff_unit.specs.StageKeptLaws as stages
 use Rattle.ff_unit.specs.StageSteps.{StageStep}
 use Rattle.ff_loop.specs.WorkerMarkLaws.{with_marks}
-use Rattle.ff_loop.specs.WorkerRunLaws.{IsMarked-leads, took_on-one, gave_on-one}
+use Rattle.ff_loop.specs.WorkerRunLaws.{IsMarked-leads}
 use Rattle.ff_loop.specs.WorkerTakesLaws.{IsLevel, IsMarkedAt}
-use Rattle.ff_loop.specs.WorkerSteps.{WorkerStep}
+use Rattle.ff_loop.specs.WorkerUnit.{WorkerStep}
 
 -- the ports of a worker after a run, and the run of its stage
 pub record IsMarkedRun {N : Type 0} (b : Behaviour N) (u : StageState N) (gots puts : List (List Message)) : Type 0 where
@@ -22,7 +22,7 @@ pub record IsMarkedRun {N : Type 0} (b : Behaviour N) (u : StageState N) (gots p
   pub puts_are : puts ≡ put ∷ []
   pub stage : StageState N
   pub ins : List Message
-  pub run : HasRun (StageStep b) (opening_stage b stage) 1 1 stage (ins ∷ []) (put ∷ [])
+  pub run : HasRun (StageStep b []) (opening_stage b stage) 1 1 stage (ins ∷ []) (put ∷ [])
   pub marked : IsMarkedAt stage u ins got
 
 module _ {N : Type 0} (b : Behaviour N) where
@@ -55,16 +55,16 @@ module _ {N : Type 0} (b : Behaviour N) where
       record {
         got = stages.ins_of run.acts;
         put = stages.outs_of run.acts;
-        gots_are = run.takes ∙ took_on-one b (opening_stage b u) run.acts u run.leads;
-        puts_are = run.gives ∙ gave_on-one b (opening_stage b u) run.acts u run.leads;
+        gots_are = run.takes ∙ stages.took_on-one b (Mark ∷ []) (opening_stage b u) run.acts u run.leads;
+        puts_are = run.gives ∙ stages.gave_on-one b (Mark ∷ []) (opening_stage b u) run.acts u run.leads;
         stage = m.stage;
         ins = stages.ins_of m.acts;
-        run = subst (λ start. HasRun (StageStep b) start 1 1 m.stage (stages.ins_of m.acts ∷ []) (stages.outs_of run.acts ∷ []))
+        run = subst (λ start. HasRun (StageStep b []) start 1 1 m.stage (stages.ins_of m.acts ∷ []) (stages.outs_of run.acts ∷ []))
             (opening-at m.stage u (stages.ins_of m.acts) (stages.ins_of run.acts) m.at) (record {
               acts = m.acts;
               leads = m.leads;
-              takes = sym (stages.took_on-one b (opening_stage b u) m.acts m.stage m.leads);
-              gives = sym (stages.gave_on-one b (opening_stage b u) m.acts m.stage m.leads ∙ ap (λ l. l ∷ []) m.outs_are);
+              takes = sym (stages.took_on-one b [] (opening_stage b u) m.acts m.stage m.leads);
+              gives = sym (stages.gave_on-one b [] (opening_stage b u) m.acts m.stage m.leads ∙ ap (λ l. l ∷ []) m.outs_are);
             });
         marked = m.at;
       }

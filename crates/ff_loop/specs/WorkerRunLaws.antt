@@ -2,26 +2,25 @@
 use Rattle.std.specs.Prelude.{◌≡◌, ◌⊎◌, IsSome}
 use Rattle.std.proofs.Common.{ℕ, List, [], ◌∷◌, ◌++◌, length, get_or, drop, None, refl, sym, ap, ◌∙◌, subst, arith, length-append, inl, inr}
 use Rattle.std.proofs.lemmas.Bool.{false≢true}
-use Rattle.ff_rec.specs.Streams.{added}
 use Rattle.ff_rec.specs.declared.msg.Msg.TheVariants.{Mark}
 use Rattle.ff_node.specs.Behaviour.{Behaviour}
-use Rattle.ff_node.specs.Runs.{Message, Act, Took, Gave, Refused, Idle, Told, Handed, Leads, took, gave, took_on, gave_on}
+use Rattle.ff_node.specs.Runs.{Message, Act, Took, Gave, Refused, Idle, Told, Handed, Leads}
 use Rattle.ff_unit.specs.Stage.{StageState}
 use Rattle.ff_unit.specs.StageSteps.{StageStep, StageTakes, IsOpenFront, drops, short_fin}
 use Rattle.ff_unit.specs.StageKeptLaws.{takes_one, gives_one, ins_of, outs_of}
 use Rattle.ff_unit.specs.declared.mode.Mode.TheVariants.{Live, Shut, Cut}
-use Rattle.ff_loop.specs.WorkerSteps.{WorkerStep}
 use Rattle.ff_loop.specs.WorkerMarkLaws.{with_marks}
 use Rattle.ff_loop.specs.WorkerTakesLaws.{with_mark, IsLevel, DropsMark, IsMarkedAt, IsMarked, took-level, drops_mark, stepped}
+use Rattle.ff_loop.specs.WorkerUnit.{WorkerStep}
 
 module _ {N : Type 0} (b : Behaviour N) (start : StageState N) where
-  module _ (g p : List Message) (acts : List Act) (s : StageState N) (leads : Leads (StageStep b) start acts s) (outs : outs_of acts ≡ p) where
+  module _ (g p : List Message) (acts : List Act) (s : StageState N) (leads : Leads (StageStep b []) start acts s) (outs : outs_of acts ≡ p) where
     -- from where the stage has taken all that the worker took
     level-step : (u : StageState N) → IsLevel s u (ins_of acts) g → (act : Act) (v : StageState N) → WorkerStep b u act v
         → IsMarked b start v (takes_one act g) (gives_one act p)
     level-step u level act v step = by act (subst (λ w. WorkerStep b w act v) level.same step)
       where
-        both : (act : Act) → StageStep b s act v → takes_one act (ins_of acts) ≡ with_marks (takes_one act g)
+        both : (act : Act) → StageStep b [] s act v → takes_one act (ins_of acts) ≡ with_marks (takes_one act g)
             → IsMarked b start v (takes_one act g) (gives_one act p)
         both act step ins = stepped b start g p acts s leads outs act v v (takes_one act g) (gives_one act p) step refl (inl (record { same = refl; ins_are = ins }))
 
@@ -34,7 +33,7 @@ module _ {N : Type 0} (b : Behaviour N) (start : StageState N) where
         by (Handed x) step = both (Handed x) step level.ins_are
 
   -- from where the stage has still to take a Mark that it will drop
-  drops-step : (g p : List Message) (acts : List Act) (s : StageState N) (leads : Leads (StageStep b) start acts s) (outs : outs_of acts ≡ p)
+  drops-step : (g p : List Message) (acts : List Act) (s : StageState N) (leads : Leads (StageStep b []) start acts s) (outs : outs_of acts ≡ p)
       → (u : StageState N) → DropsMark s u (ins_of acts) g → (act : Act) (v : StageState N) → WorkerStep b u act v
       → IsMarked b start v (takes_one act g) (gives_one act p)
   drops-step g p acts s leads outs u late act v step = by act (subst (λ w. WorkerStep b w act v) late.same step)
@@ -48,7 +47,7 @@ module _ {N : Type 0} (b : Behaviour N) (start : StageState N) where
         | inr cut ↦ let e : Live ≡ Cut = sym live ∙ cut in cc
       ]
 
-      both : (act : Act) → StageStep b s act v → takes_one act (ins_of acts) ++ Mark ∷ [] ≡ with_marks (takes_one act g)
+      both : (act : Act) → StageStep b [] s act v → takes_one act (ins_of acts) ++ Mark ∷ [] ≡ with_marks (takes_one act g)
           → (v.mode ≡ Shut) ⊎ (v.mode ≡ Cut) → v.fin ≡ None → IsMarked b start v (takes_one act g) (gives_one act p)
       both act step ins dead fin = stepped b start g p acts s leads outs act v v (takes_one act g) (gives_one act p) step refl
           (inr (inr (record { same = refl; dead = dead; undecided = fin; ins_are = ins })))
@@ -65,11 +64,11 @@ module _ {N : Type 0} (b : Behaviour N) (start : StageState N) where
       by (Handed x) step = both (Handed x) step late.ins_are (same_mode (ap (λ w. w.mode) step.1)) (ap (λ w. w.fin) step.1 ∙ late.undecided)
 
   -- from where the worker holds a Mark that the stage has still to take
-  module _ (g p : List Message) (acts : List Act) (s : StageState N) (leads : Leads (StageStep b) start acts s) (outs : outs_of acts ≡ p)
+  module _ (g p : List Message) (acts : List Act) (s : StageState N) (leads : Leads (StageStep b []) start acts s) (outs : outs_of acts ≡ p)
       (live : s.mode ≡ Live) (undecided : s.fin ≡ None) (ins : ins_of acts ++ Mark ∷ [] ≡ with_marks g) where
     -- the stage takes the Mark
-    took_mark : (held : List Message) → s.held ≡ held → held ≡ [] → StageStep b s (Took 0 Mark) (record s { held = Mark ∷ [] })
-    took_mark held e none = (refl, e ∙ none, undecided, subst (λ mode. StageTakes b mode s Mark (record s { held = Mark ∷ [] })) (sym live) refl)
+    took_mark : (held : List Message) → s.held ≡ held → held ≡ [] → StageStep b [] s (Took 0 Mark) (record s { held = Mark ∷ [] })
+    took_mark held e none = (refl, e ∙ none, undecided, subst (λ mode. StageTakes b [] mode s Mark (record s { held = Mark ∷ [] })) (sym live) refl)
 
     owes-gave : (k : ℕ) (m : Message) (v : StageState N) (held : List Message) → s.held ≡ held → k ≡ 0 → held ++ Mark ∷ [] ≡ m ∷ v.held
         → v ≡ record s { held = v.held } → IsMarked b start v g (p ++ m ∷ [])
@@ -152,29 +151,3 @@ module _ {N : Type 0} (b : Behaviour N) (start : StageState N) where
   pub IsMarked-leads : (acts : List Act) (u : StageState N) → Leads (WorkerStep b) start acts u → IsMarked b start u (ins_of acts) (outs_of acts)
   IsMarked-leads [] u e = record { acts = []; stage = start; leads = refl; outs_are = refl; at = inl (record { same = e; ins_are = refl }) }
   IsMarked-leads (act ∷ acts) u l = mark-step l.0 (ins_of acts) (outs_of acts) act u l.2 (IsMarked-leads acts l.0 l.1)
-
--- the ports are one in and one out
-module _ {N : Type 0} (b : Behaviour N) where
-  took-one : (u : StageState N) (act : Act) (v : StageState N) (g : List Message) → WorkerStep b u act v → took act (g ∷ []) ≡ takes_one act g ∷ []
-  took-one u (Took k m) v g s = ap (λ k. added (g ∷ []) k m) s.0
-  took-one u (Gave k m) v g s = refl
-  took-one u Refused v g s = refl
-  took-one u Idle v g s = refl
-  took-one u Told v g s = refl
-  took-one u (Handed x) v g s = refl
-
-  gave-one : (u : StageState N) (act : Act) (v : StageState N) (p : List Message) → WorkerStep b u act v → gave act (p ∷ []) ≡ gives_one act p ∷ []
-  gave-one u (Took k m) v p s = refl
-  gave-one u (Gave k m) v p s = ap (λ k. added (p ∷ []) k m) s.0
-  gave-one u Refused v p s = refl
-  gave-one u Idle v p s = refl
-  gave-one u Told v p s = refl
-  gave-one u (Handed x) v p s = refl
-
-  pub took_on-one : (start : StageState N) (acts : List Act) (u : StageState N) → Leads (WorkerStep b) start acts u → took_on ([] ∷ []) acts ≡ ins_of acts ∷ []
-  took_on-one start [] u l = refl
-  took_on-one start (act ∷ acts) u l = ap (took act) (took_on-one start acts l.0 l.1) ∙ took-one l.0 act u (ins_of acts) l.2
-
-  pub gave_on-one : (start : StageState N) (acts : List Act) (u : StageState N) → Leads (WorkerStep b) start acts u → gave_on ([] ∷ []) acts ≡ outs_of acts ∷ []
-  gave_on-one start [] u l = refl
-  gave_on-one start (act ∷ acts) u l = ap (gave act) (gave_on-one start acts l.0 l.1) ∙ gave-one l.0 act u (outs_of acts) l.2

@@ -8,8 +8,10 @@ mod master;
 mod numbers;
 mod rounds;
 mod scheduler;
+mod work;
 mod worker;
 mod worklist;
+mod wrap_master;
 
 pub use events::Events;
 pub use master::Master;
@@ -17,6 +19,7 @@ pub use rounds::Rounds;
 pub use scheduler::Scheduler;
 pub use worker::WrapWorker;
 pub use worklist::Worklist;
+pub use wrap_master::WrapMaster;
 
 #[cfg(test)]
 mod tests;

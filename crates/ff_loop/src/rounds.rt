@@ -1,6 +1,8 @@
 // The tasks of a wrap, from those that are fed in to the last of those that they spawn.
 ghost use Rattle.std.specs.Prelude.{◌≡◌, ◌+◌, ◌<◌, ◌↔◌, ◌∷◌, length, IsTrue, IfOk, OnOk};
 ghost use Rattle.ff_net.specs.Logs.{Fed, Got, given_to, got_from, IsDone, IsOverLimit as IsPastLimit};
+ghost use Rattle.ff_loop.specs.Masters.{opened_master};
+ghost use Rattle.ff_loop.specs.Worklists.{opened_work};
 ghost use Rattle.ff_loop.specs.Rounds.{test_of, limit_of, workers_of, log_of, taken_of};
 ghost use Rattle.ff_loop.specs.Rounds.{IsRound, GoesRound, IsOpened, GivesTask, TakesOut};
 
@@ -29,7 +31,8 @@ impl Model for Rounds {
 impl Rounds {
     /// No task yet, for so many workers. There may be at most `limit` tasks.
     pub fn new(alloc: Global, test: Test, limit: u64, workers: u32) -> Result<Rounds, NoMemory>
-        ensures { IfOk result (λ r. IsOpened test limit workers r) }
+        ensures opened { IfOk result (λ r. IsOpened test limit workers r) }
+        ensures made { IfOk result (λ r. r ≡ opened_master (opened_work test limit) workers) }
     {
         let tasks = Worklist::new(alloc, test, limit);
         let master = Master::new(alloc, tasks, workers)?;

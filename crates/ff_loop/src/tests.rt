@@ -2,7 +2,9 @@
 ghost use Rattle.std.specs.Prelude.{◌≡◌, ◌<◌, IfOk};
 ghost use Rattle.ff_loop.specs.Rounds.{IsRound, workers_of};
 
+mod players;
 mod workers;
+mod wrap_masters;
 
 use crate::Rounds;
 use ff_net::Test;

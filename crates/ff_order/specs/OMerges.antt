@@ -3,7 +3,7 @@ use Rattle.std.specs.Prelude.{◌≡◌, ◌≢◌, ◌⊎◌, ◌<◌, ◌≤�
 use Rattle.ff_rec.specs.Streams.{IsOpen, at}
 use Rattle.ff_rec.specs.declared.msg.Msg.TheVariants.{Item, Mark, Pick, Eos as EosMsg, Abort as AbortMsg}
 use Rattle.ff_node.specs.Fits.{FitsTurnMerge, FitsPickMerge}
-use Rattle.ff_node.specs.Runs.{Message, Act, Took, Gave, Refused, Idle, Told, Handed}
+use Rattle.ff_node.specs.Runs.{Message, Act, Took, Gave, Refused, Idle, Told, Handed, BeginsToFit}
 use Rattle.ff_port.specs.declared.answers.End.{End}
 use Rattle.ff_port.specs.declared.answers.End.TheVariants.{Eos, Abort, Memory}
 use Rattle.ff_unit.specs.Closing.{IsLive, any_live, all_live, none_live, decided, AllDry}
@@ -181,5 +181,6 @@ omerge_does = record {
   Ready = OMergeReady;
   Stalls = λ u before after. OMergeStalls u.held (any_live u.live) u before after;
   Fits = λ u. FitsOMerge u.order u.places;
+  Begins = λ u gots puts. BeginsToFit (FitsOMerge u.order u.places) gots puts;
   rejected = λ u gots. [];
 }

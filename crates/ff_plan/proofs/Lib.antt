@@ -12,7 +12,7 @@ mod UnitLists
 mod Single
 mod EdgeLists
 mod Dealing
-mod Masters
+pub mod Masters
 pub mod FormLaws
 mod Sets
 mod Carries
@@ -27,7 +27,7 @@ mod LevelWeights
 mod Withins
 mod LogLevels
 mod Fronts
-mod PlainWorkers
+pub mod PlainWorkers
 mod Wraps
 mod WholeWraps
 mod CutWraps

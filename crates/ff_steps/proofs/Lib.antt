@@ -31,9 +31,11 @@ pub mod NetOpened
 pub mod NetRuns
 pub mod NetBegins
 pub mod NetEnds
+pub mod NeverOver
 pub mod NetMade
 pub mod Shapes
 pub mod PutsOpen
+pub mod LogFits
 pub mod UnitFits
 pub mod UnitRejects
 pub mod FreshUnits

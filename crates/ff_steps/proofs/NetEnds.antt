@@ -22,6 +22,8 @@ use Rattle.ff_plan.specs.Laying.{units_of}
 use Rattle.ff_plan.specs.PlanLaws.{WholeRuns}
 use Rattle.ff_plan.specs.Plans.{rows_of}
 use Rattle.ff_plan.specs.Rows.{Row, Laid}
+use Rattle.ff_plan.proofs.FormLaws.{no_copies_no_wrap}
+use Rattle.ff_plan.proofs.MeanPlain.{no_wrap_fine}
 use Rattle.ff_plan.proofs.LaidUnits.{length-rows_of}
 use Rattle.ff_port.specs.Queues.{put_of}
 use Rattle.ff_port.specs.declared.answers.End.{End}
@@ -29,8 +31,8 @@ use Rattle.ff_port.specs.declared.answers.End.TheVariants.{Eos, Abort, Memory}
 use Rattle.ff_unit.specs.MessageLaws.{items-append}
 use Rattle.ff_unit.specs.Units.{Doing, IsUnit}
 use Rattle.ff_steps.specs.Core.{CoreState, edge, IsSound, all_ended, is_cut_off, is_short, held_rejects, taken_rejects}
-use Rattle.ff_steps.specs.NetCores.{IsNetCore}
-use Rattle.ff_steps.specs.NetUnits.{NetState, net_does}
+use Rattle.ff_steps.specs.NetCores.{IsNetCore, TellsOver}
+use Rattle.ff_steps.specs.NetUnits.{NetState, net_does, any_over}
 use Rattle.ff_steps.specs.OverEdges.{RanAlong, HasAnswered}
 use Rattle.ff_steps.specs.PlanUnits.{opened_unit}
 use Rattle.ff_steps.specs.Parties.{Feeder, Drainer, AsUnit, AsFeeder, AsDrainer, has_ended}
@@ -39,8 +41,9 @@ use Rattle.ff_steps.proofs.FeederRuns.{at-feeder_done}
 use Rattle.ff_steps.proofs.MessageLists.{items-carried, ended-front}
 use Rattle.ff_steps.proofs.NetRuns.{RanOver-core, run-feeder, run-drainer}
 use Rattle.ff_steps.proofs.OneNode.{one_group, node_rejected-one}
+use Rattle.ff_steps.proofs.OneUnit.{no_copies-one_unit}
 use Rattle.ff_steps.proofs.OverEnds.{HasEndedWell}
-use Rattle.ff_steps.proofs.OverWhole.{HasAnswered-over}
+use Rattle.ff_steps.proofs.OverWhole.{HasAnswered-over, Over-over}
 
 -- an end that is decided and isn't cut off is Eos
 fin-eos : (fin : Option End) → IsSome fin → is_cut_off fin ≡ false → fin ≡ Some Eos
@@ -79,8 +82,8 @@ ended-along d laws got put (row ∷ rows) (u ∷ us) ran done whole =
       ended-along d laws got put rows us ran.1 done.1 p.1,
     )
 
-module _ {N : Type 0} (b : Behaviour N) (kind : KeepsKind b) (laws : IsUnit (net_does b)) (keep : Bool) (t : Tree N) (good : Good b t)
-    (runs : (m : ℕ) → WholeRuns b m t) (c : CoreState (NetState N)) (is : IsNetCore b keep t c) (sound : IsSound (net_does b) c)
+module _ {N : Type 0} (b : Behaviour N) (kind : KeepsKind b) (laws : IsUnit (net_does b)) (m : ℕ) (keep : Bool) (t : Tree N) (good : Good b t)
+    (runs : (m : ℕ) → WholeRuns b m t) (c : CoreState (NetState N)) (is : IsNetCore b m keep t c) (sound : IsSound (net_does b) c)
     (ended : all_ended (net_does b) c ≡ true) (whole : is_short (net_does b) c ≡ false) where
   parts : AllByRecursion (λ u. (net_does b).done u ≡ true) c.units × ((c.feeder.done ≡ true) × (c.drainer.done ≡ true))
   parts = ended-parts (net_does b) c.units c.feeder c.drainer ended
@@ -92,17 +95,30 @@ module _ {N : Type 0} (b : Behaviour N) (kind : KeepsKind b) (laws : IsUnit (net
       or_parts (list_any (λ u. (net_does b).done u && is_cut_off ((net_does b).fin u)) c.units) (c.feeder.refused || c.drainer.refused) whole in
       (p.0, or_parts c.feeder.refused c.drainer.refused p.1)
 
-  -- the network was given the whole input, and gave an answer
-  pub HasAnswered-core : (m : ℕ) → HasAnswered b m keep t c.input c.units (λ e. put_of (edge c e))
-  HasAnswered-core m =
-      let over = RanOver-core b keep t c is sound in
-      HasAnswered-over b kind laws keep t is.free good c.units (λ e. (edge c e).got) (λ e. put_of (edge c e)) over
-      (ended-along (net_does b) laws (λ e. (edge c e).got) (λ e. put_of (edge c e)) (rows_of t) c.units over.ran parts.0 whole-parts.0) c.input
-      (at-feeder_done c.input c.feeder [] (put_of (edge c 0) ∷ []) (run-feeder b keep t c is sound) parts.1.0 whole-parts.1.0) m (runs m)
+  -- the network was given the whole input
+  ended_well : AllByRecursion (HasEndedWell (net_does b)) c.units
+  ended_well =
+      ended-along (net_does b) laws (λ e. (edge c e).got) (λ e. put_of (edge c e)) (rows_of t) c.units (RanOver-core b m keep t c is sound).ran parts.0 whole-parts.0
+
+  fed_whole : put_of (edge c 0) ≡ closed (carried c.input)
+  fed_whole = at-feeder_done c.input c.feeder [] (put_of (edge c 0) ∷ []) (run-feeder b m keep t c is sound) parts.1.0 whole-parts.1.0
+
+  -- and gave an answer, where no unit is over
+  pub HasAnswered-core : any_over c.units ≡ false → HasAnswered b m keep t c.input c.units (λ e. put_of (edge c e))
+  HasAnswered-core none =
+      HasAnswered-over b kind laws m keep t good c.units (λ e. (edge c e).got) (λ e. put_of (edge c e)) (RanOver-core b m keep t c is sound) ended_well c.input fed_whole
+      (runs m) none
+
+  -- some is exactly where the network's meaning is
+  pub TellsOver-core : TellsOver b m t c.input c.units
+  TellsOver-core = record {
+    over = Over-over b kind laws m keep t good c.units (λ e. (edge c e).got) (λ e. put_of (edge c e)) (RanOver-core b m keep t c is sound) ended_well c.input fed_whole (runs m);
+    fine = λ none. (HasAnswered-core none).answers.fine;
+  }
 
   -- the drainer took all of it
   items-last : (ys : List Rec) → put_of (edge c 1) ≡ closed (carried ys) → items (edge c 1).got ≡ ys
-  items-last ys is_all = from (IsEnded-drainer c.drainer ((edge c 1).got ∷ []) [] (run-drainer b keep t c is sound) parts.1.1)
+  items-last ys is_all = from (IsEnded-drainer c.drainer ((edge c 1).got ∷ []) [] (run-drainer b m keep t c is sound) parts.1.1)
     where
       from : IsEnded (edge c 1).got → items (edge c 1).got ≡ ys
       from h =
@@ -112,36 +128,44 @@ module _ {N : Type 0} (b : Behaviour N) (kind : KeepsKind b) (laws : IsUnit (net
 
   -- and kept it
   pub output-ended : (ys : List Rec) → put_of (edge c 1) ≡ closed (carried ys) → c.drainer.output ≡ ys
-  output-ended ys is_all = from (items-drainer c.drainer ((edge c 1).got ∷ []) [] (run-drainer b keep t c is sound))
+  output-ended ys is_all = from (items-drainer c.drainer ((edge c 1).got ∷ []) [] (run-drainer b m keep t c is sound))
     where
       from : ((lost : List Rec) × (items (edge c 1).got ≡ c.drainer.output ++ lost) × (c.drainer.refused ≡ false → lost ≡ [])) → c.drainer.output ≡ ys
       from d = sym (append-nil c.drainer.output) ∙ ap (λ l. c.drainer.output ++ l) (sym (d.2 whole-parts.1.1)) ∙ sym d.1 ∙ items-last ys is_all
 
   -- the answer, the number of the rejects, and those that are held behind those that were taken out
-  pub Answers-core : (m : ℕ) → Answers b m t c.input c.drainer.output
-  Answers-core m =
-      let a = HasAnswered-core m in
+  pub Answers-core : any_over c.units ≡ false → Answers b m t c.input c.drainer.output
+  Answers-core none =
+      let a = HasAnswered-core none in
       subst (λ ys. Answers b m t c.input ys) (sym (output-ended a.ys a.carries)) a.answers
 
-  pub number-core : (m : ℕ) → counted (sum_by (net_does b).rejects c.units) ≡ mean_rejected_count b m t c.input
-  number-core m = (HasAnswered-core m).number
+  pub number-core : any_over c.units ≡ false → counted (sum_by (net_does b).rejects c.units) ≡ mean_rejected_count b m t c.input
+  number-core none = (HasAnswered-core none).number
 
-  pub held-core : (m : ℕ) → keep ≡ true
+  pub held-core : any_over c.units ≡ false → keep ≡ true
       → Same (taken_rejects (net_does b) c ++ held_rejects (net_does b) c) (mean_rejected b m t c.input)
-  held-core m kept = (HasAnswered-core m).kept kept
+  held-core none kept = (HasAnswered-core none).kept kept
+
+  length-made : length c.units ≡ units_of_all t
+  length-made =
+      sym (length-map c.units (net_does b).opening) ∙ ap length (sound.made_of ∙ is.made) ∙ length-map (units_of t) (opened_unit b m keep)
+      ∙ sym (length-map (units_of t) (λ (l : Laid N). l.row)) ∙ length-rows_of t
+
+  -- a unit alone is never over
+  none_of_one : has_copies t ≡ false → any_over c.units ≡ false
+  none_of_one copied = by (any_over c.units) refl
+    where
+      by : (some : Bool) → any_over c.units ≡ some → any_over c.units ≡ false
+      by false is_over = is_over
+      by true is_over = absurd (TellsOver-core.over is_over (no_wrap_fine b m t (no_copies_no_wrap t copied) c.input))
 
   -- in their order where there is one unit
   pub held_of_one-core : keep ≡ true → length c.units ≡ 1
       → taken_rejects (net_does b) c ++ held_rejects (net_does b) c ≡ node_rejected (comb_node b) (running (map b.opening (nodes_in t))) c.input
-  held_of_one-core kept one = (HasAnswered-core 0).kept_of_one kept one
+  held_of_one-core kept one = (HasAnswered-core (none_of_one (no_copies-one_unit b t good (sym length-made ∙ one)))).kept_of_one kept one
 
   -- and in the network's where there is one node, and no copy of it
-  pub held_of_node-core : keep ≡ true → has_copies t ≡ false → length (nodes_in t) ≡ 1 → (m : ℕ)
+  pub held_of_node-core : keep ≡ true → has_copies t ≡ false → length (nodes_in t) ≡ 1
       → taken_rejects (net_does b) c ++ held_rejects (net_does b) c ≡ mean_rejected b m t c.input
-  held_of_node-core kept whole_net one m =
+  held_of_node-core kept whole_net one =
       held_of_one-core kept (length-made ∙ sym (length-node_groups t whole_net) ∙ one_group b kind t whole_net good one) ∙ node_rejected-one b kind t whole_net (nodes_in t) refl one m c.input
-    where
-      length-made : length c.units ≡ units_of_all t
-      length-made =
-          sym (length-map c.units (net_does b).opening) ∙ ap length (sound.made_of ∙ is.made) ∙ length-map (units_of t) (opened_unit b keep)
-          ∙ sym (length-map (units_of t) (λ (l : Laid N). l.row)) ∙ length-rows_of t

@@ -4,7 +4,6 @@ use Rattle.std.proofs.lemmas.List.{length-map, get_or-map}
 use Rattle.ff_rec.specs.Lines.{Rec}
 use Rattle.ff_node.specs.Behaviour.{Behaviour, KeepsKind}
 use Rattle.ff_net.specs.Counts.{units, edges}
-use Rattle.ff_net.specs.Forms.{has_wrap}
 use Rattle.ff_net.specs.Good.{Good}
 use Rattle.ff_net.specs.Limits.{most_units}
 use Rattle.ff_net.specs.Tree.{Tree}
@@ -46,26 +45,26 @@ few-units : (v : Version) → most_units v ≤ 65536
 few-units One = omega arith
 few-units Two = omega arith
 
-module _ {N : Type 0} (b : Behaviour N) (keep : Bool) (t : Tree N) (free : has_wrap t ≡ false) where
-  pub few-opened_units : (v : Version) → units t ≤ most_units v → (us : List (NetState N)) → us ≡ opened_units b keep t → length us ≤ 65536
+module _ {N : Type 0} (b : Behaviour N) (m : ℕ) (keep : Bool) (t : Tree N) where
+  pub few-opened_units : (v : Version) → units t ≤ most_units v → (us : List (NetState N)) → us ≡ opened_units b m keep t → length us ≤ 65536
   few-opened_units v within us are =
-      omega (arith, few-units v, within, length-rows_of t, length-map (units_of t) (λ (l : Laid N). l.row), ap length are ∙ length-map (units_of t) (opened_unit b keep))
+      omega (arith, few-units v, within, length-rows_of t, length-map (units_of t) (λ (l : Laid N). l.row), ap length are ∙ length-map (units_of t) (opened_unit b m keep))
 
   -- the core of parts that are those of a network
   pub opened_core-net : (cap : ℕ) (us : List (NetState N)) (rows : List Row) (queues : List (Queue Rec)) (input : List Rec)
-      → us ≡ opened_units b keep t → rows ≡ port_rows t → queues ≡ edge_queues (plan_of t cap Ring).edges
-      → opened_core (net_does b) us rows queues input ≡ opened_net b keep t cap input
+      → us ≡ opened_units b m keep t → rows ≡ port_rows t → queues ≡ edge_queues (plan_of t cap Ring).edges
+      → opened_core (net_does b) us rows queues input ≡ opened_net b m keep t cap input
   opened_core-net cap us rows queues input units_are rows_are queues_are =
       ap (λ x. opened_core (net_does b) x rows queues input) units_are
-      ∙ ap (λ x. opened_core (net_does b) (opened_units b keep t) x queues input) rows_are
-      ∙ ap (λ x. opened_core (net_does b) (opened_units b keep t) (port_rows t) x input) queues_are
+      ∙ ap (λ x. opened_core (net_does b) (opened_units b m keep t) x queues input) rows_are
+      ∙ ap (λ x. opened_core (net_does b) (opened_units b m keep t) (port_rows t) x input) queues_are
 
   module _ (kind : KeepsKind b) (good : Good b t) (joined : IsJoined t) (cap : ℕ) (input : List Rec) where
     length-queues : length (edge_queues (plan_of t cap Ring).edges) ≡ edges t
     length-queues = length-map (plan_of t cap Ring).edges _ ∙ length-map (range 0 (edges t)) (edge_of (rows_of t) cap Ring) ∙ length-range 0 (edges t)
 
-    pub IsSound-net : IsSound (net_does b) (opened_net b keep t cap input)
-    IsSound-net = IsSound-opened b kind keep t free good joined (edge_queues (plan_of t cap Ring).edges) (AreEmpty-queues (plan_of t cap Ring).edges) length-queues input
+    pub IsSound-net : IsSound (net_does b) (opened_net b m keep t cap input)
+    IsSound-net = IsSound-opened b kind m keep t good joined (edge_queues (plan_of t cap Ring).edges) (AreEmpty-queues (plan_of t cap Ring).edges) length-queues input
 
-    pub IsNetCore-net : IsNetCore b keep t (opened_net b keep t cap input)
-    IsNetCore-net = IsNetCore-opened b kind keep t free good joined (edge_queues (plan_of t cap Ring).edges) (AreEmpty-queues (plan_of t cap Ring).edges) length-queues input
+    pub IsNetCore-net : IsNetCore b m keep t (opened_net b m keep t cap input)
+    IsNetCore-net = IsNetCore-opened b kind m keep t good joined (edge_queues (plan_of t cap Ring).edges) (AreEmpty-queues (plan_of t cap Ring).edges) length-queues input

@@ -6,7 +6,6 @@ use Rattle.std.proofs.lemmas.List.{length-map, length-append, get_or_append_left
 use Rattle.ff_rec.specs.Lines.{Rec}
 use Rattle.ff_node.specs.Behaviour.{Behaviour, KeepsKind}
 use Rattle.ff_net.specs.Counts.{edges}
-use Rattle.ff_net.specs.Forms.{has_wrap}
 use Rattle.ff_net.specs.Good.{Good}
 use Rattle.ff_net.specs.Tree.{Tree}
 use Rattle.ff_plan.specs.declared.layout.Edge.{Edge}
@@ -64,34 +63,34 @@ three_kinds k p low = first (cases_lt p k)
         second (inl m) = inr (inr (omega (arith, m, low)))
         second (inr m) = inr (inl (omega (arith, l, m)))
 
-module _ {N : Type 0} (b : Behaviour N) (kind : KeepsKind b) (keep : Bool) where
+module _ {N : Type 0} (b : Behaviour N) (kind : KeepsKind b) (m : ℕ) (keep : Bool) where
   -- the units are what they were before their first steps
-  opening-opened_units : (ls : List (Laid N)) → AllByRecursion HasShape ls → map (opening_net b) (map (opened_unit b keep) ls) ≡ map (opened_unit b keep) ls
+  opening-opened_units : (ls : List (Laid N)) → AllByRecursion (HasShape b) ls → map (opening_net b) (map (opened_unit b m keep) ls) ≡ map (opened_unit b m keep) ls
   opening-opened_units [] shapes = refl
   opening-opened_units (l ∷ ls) shapes =
-      ap₂ (λ u units. u ∷ units) (opening-kind b kind keep l.row.kind l.net (length l.row.ins) (length l.row.outs) shapes.0) (opening-opened_units ls shapes.1)
+      ap₂ (λ u units. u ∷ units) (opening-kind b kind m keep l.row.kind l.net (length l.row.ins) (length l.row.outs) shapes.0) (opening-opened_units ls shapes.1)
 
   -- and took and put nothing
-  ran-opened_units : (queues : List (Queue Rec)) → AreEmpty queues → (ls : List (Laid N)) → AllByRecursion HasShape ls → (i : ℕ) (d : NetState N) → i < length ls
-      → Ran (net_does b) (get_or (map (opened_unit b keep) ls) i d)
+  ran-opened_units : (queues : List (Queue Rec)) → AreEmpty queues → (ls : List (Laid N)) → AllByRecursion (HasShape b) ls → (i : ℕ) (d : NetState N) → i < length ls
+      → Ran (net_does b) (get_or (map (opened_unit b m keep) ls) i d)
       (gots_at queues (row_at (map port_row (map (λ l. l.row) ls)) i).ins) (puts_at queues (row_at (map port_row (map (λ l. l.row) ls)) i).outs)
   ran-opened_units queues none [] shapes i d low = absurd (omega (arith, low))
   ran-opened_units queues none (l ∷ ls) shapes zero d low =
-      subst (λ gots. Ran (net_does b) (opened_unit b keep l) gots (puts_at queues l.row.outs)) (sym (gots_at-empty queues none l.row.ins))
-      (subst (λ puts. Ran (net_does b) (opened_unit b keep l) (replicate (length l.row.ins) []) puts) (sym (puts_at-empty queues none l.row.outs))
-      (Ran-kind b kind keep l.row.kind l.net (length l.row.ins) (length l.row.outs) shapes.0))
+      subst (λ gots. Ran (net_does b) (opened_unit b m keep l) gots (puts_at queues l.row.outs)) (sym (gots_at-empty queues none l.row.ins))
+      (subst (λ puts. Ran (net_does b) (opened_unit b m keep l) (replicate (length l.row.ins) []) puts) (sym (puts_at-empty queues none l.row.outs))
+      (Ran-kind b kind m keep l.row.kind l.net (length l.row.ins) (length l.row.outs) shapes.0))
   ran-opened_units queues none (l ∷ ls) shapes (suc i) d low = ran-opened_units queues none ls shapes.1 i d (omega (arith, low))
 
-  module _ (t : Tree N) (free : has_wrap t ≡ false) (good : Good b t) (joined : IsJoined t) (queues : List (Queue Rec)) (none : AreEmpty queues) (many : length queues ≡ edges t)
+  module _ (t : Tree N) (good : Good b t) (joined : IsJoined t) (queues : List (Queue Rec)) (none : AreEmpty queues) (many : length queues ≡ edges t)
       (input : List Rec) where
     abbrev units : List (NetState N)
-    units = opened_units b keep t
+    units = opened_units b m keep t
 
     abbrev c : CoreState (NetState N)
-    c = opened_core (net_does b) (opened_units b keep t) (port_rows t) queues input
+    c = opened_core (net_does b) (opened_units b m keep t) (port_rows t) queues input
 
     length-units_of : length (units_of t) ≡ length units
-    length-units_of = sym (length-map (units_of t) (opened_unit b keep))
+    length-units_of = sym (length-map (units_of t) (opened_unit b m keep))
 
     length-rows : length (port_rows t) ≡ length units
     length-rows = length-map (rows_of t) port_row ∙ length-map (units_of t) (λ (l : Laid N). l.row) ∙ length-units_of
@@ -102,7 +101,7 @@ module _ {N : Type 0} (b : Behaviour N) (kind : KeepsKind b) (keep : Bool) where
         let at = get_or_append_left (port_rows t) (feeder_row ∷ drainer_row ∷ []) (record { ins = []; outs = [] }) i (subst (λ n. i < n) (sym length-rows) low) in
         subst (λ (q : Party (NetState N)). PartyRan (net_does b) input q (gots_of c i) (puts_of c i)) (sym (party-unit c i d low))
         (subst (λ (r : Row). Ran (net_does b) (get_or units i d) (gots_at queues r.ins) (puts_at queues r.outs)) (sym at)
-        (ran-opened_units queues none (units_of t) (shapes-lay b t free good [] 0 1 2) i d (subst (λ n. i < n) (sym length-units_of) low)))
+        (ran-opened_units queues none (units_of t) (shapes-lay b t good [] 0 1 2) i d (subst (λ n. i < n) (sym length-units_of) low)))
 
     ran-feeder : PartyRan (net_does b) input (party c (length units)) (gots_of c (length units)) (puts_of c (length units))
     ran-feeder =
@@ -127,7 +126,7 @@ module _ {N : Type 0} (b : Behaviour N) (kind : KeepsKind b) (keep : Bool) where
         by (inr (inl e)) = subst (λ n. PartyRan (net_does b) input (party c n) (gots_of c n) (puts_of c n)) (sym e) ran-feeder
         by (inr (inr e)) = subst (λ n. PartyRan (net_does b) input (party c n) (gots_of c n) (puts_of c n)) (sym e) ran-drainer
 
-    pub IsSound-opened : IsSound (net_does b) (opened_core (net_does b) (opened_units b keep t) (port_rows t) queues input)
+    pub IsSound-opened : IsSound (net_does b) (opened_core (net_does b) (opened_units b m keep t) (port_rows t) queues input)
     IsSound-opened = record {
       wired = subst (λ n. IsWired (all_rows (port_rows t)) n) (sym many) (IsWired-net t joined);
       made_of = refl;
@@ -135,5 +134,5 @@ module _ {N : Type 0} (b : Behaviour N) (kind : KeepsKind b) (keep : Bool) where
       ran = ran-party;
     }
 
-    pub IsNetCore-opened : IsNetCore b keep t (opened_core (net_does b) (opened_units b keep t) (port_rows t) queues input)
-    IsNetCore-opened = record { free = free; made = opening-opened_units (units_of t) (shapes-lay b t free good [] 0 1 2); rows = refl }
+    pub IsNetCore-opened : IsNetCore b m keep t (opened_core (net_does b) (opened_units b m keep t) (port_rows t) queues input)
+    IsNetCore-opened = record { made = opening-opened_units (units_of t) (shapes-lay b t good [] 0 1 2); rows = refl }

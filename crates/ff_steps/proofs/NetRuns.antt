@@ -35,7 +35,7 @@ RanAlong-rows d got put (row ∷ rows) [] many runs = absurd (omega (arith, many
 RanAlong-rows d got put (row ∷ rows) (u ∷ units) many runs =
     (runs 0 u (omega arith), RanAlong-rows d got put rows units (omega (arith, many)) (λ i e low. runs (suc i) e (omega (arith, low))))
 
-module _ {N : Type 0} (b : Behaviour N) (keep : Bool) (t : Tree N) (c : CoreState (NetState N)) (is : IsNetCore b keep t c)
+module _ {N : Type 0} (b : Behaviour N) (m : ℕ) (keep : Bool) (t : Tree N) (c : CoreState (NetState N)) (is : IsNetCore b m keep t c)
     (sound : IsSound (net_does b) c) where
   length-units : length (port_rows t) ≡ length c.units
   length-units =
@@ -54,7 +54,7 @@ module _ {N : Type 0} (b : Behaviour N) (keep : Bool) (t : Tree N) (c : CoreStat
           ∙ get_or_append_left (port_rows t) (feeder_row ∷ drainer_row ∷ []) (record { ins = []; outs = [] }) i (subst (λ n. i < n) (sym length-units) low)
 
   -- all of them
-  pub RanOver-core : RanOver b keep t c.units (λ e. (edge c e).got) (λ e. put_of (edge c e))
+  pub RanOver-core : RanOver b m keep t c.units (λ e. (edge c e).got) (λ e. put_of (edge c e))
   RanOver-core = record {
     made = sound.made_of ∙ is.made;
     first = λ e. ((edge c e).inside, refl);

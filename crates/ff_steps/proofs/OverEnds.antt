@@ -10,12 +10,12 @@ use Rattle.ff_plan.specs.Histories.{FitsUnit, IsOverAt, rejected_by}
 use Rattle.ff_plan.specs.Rows.{Laid}
 use Rattle.ff_port.specs.declared.answers.End.TheVariants.{Eos as EosEnd}
 use Rattle.ff_unit.specs.Units.{Doing, IsUnit, Ran, HasRejects}
-use Rattle.ff_steps.specs.NetUnits.{NetState, net_does, opening_net}
+use Rattle.ff_steps.specs.NetUnits.{NetState, net_does, opening_net, over_net, log_of_net}
 use Rattle.ff_steps.specs.PlanUnits.{opened_unit}
 use Rattle.ff_steps.proofs.Heads.{head-same, tail-same, cons≢nil}
 use Rattle.ff_steps.proofs.PutsOpen.{EndsOnce, closed-ends_once}
 use Rattle.ff_steps.proofs.Shapes.{HasShape}
-use Rattle.ff_steps.proofs.UnitFits.{FitsUnit-unit, calm-unit}
+use Rattle.ff_steps.proofs.UnitFits.{FitsUnit-unit, past-unit, over-unit}
 use Rattle.ff_steps.proofs.UnitRejects.{rejected-unit, kept-unit, none-unit}
 
 -- the messages before the first Eos
@@ -45,7 +45,7 @@ before_eos-first ms g p rest inner is splits = ap before_eos (splits ∙ ap (λ 
 abbrev pub HasEndedWell : {U : Type 0} → Doing U → U → Type 0
 HasEndedWell d u = (d.done u ≡ true) × (d.fin u ≡ Some EosEnd)
 
-module _ {N : Type 0} (b : Behaviour N) (kind : KeepsKind b) (laws : IsUnit (net_does b)) (keep : Bool) (got put : ℕ → List Message)
+module _ {N : Type 0} (b : Behaviour N) (kind : KeepsKind b) (laws : IsUnit (net_does b)) (m : ℕ) (keep : Bool) (got put : ℕ → List Message)
     (first : (e : ℕ) → (rest : List Message) × (put e ≡ got e ++ rest)) where
   -- the whole list on each edge, as its readers and writers see it
   abbrev pub edge : ℕ → List Message
@@ -75,24 +75,27 @@ module _ {N : Type 0} (b : Behaviour N) (kind : KeepsKind b) (laws : IsUnit (net
 
   -- a unit that has ended, by these lists
   pub record IsEndedAt (l : Laid N) (u : NetState N) : Type 0 where
-    pub fits : (m : ℕ) → FitsUnit b m l [] (map edge l.row.ins) (map edge l.row.outs)
+    pub fits : FitsUnit b m l (log_of_net u) (map edge l.row.ins) (map edge l.row.outs)
     pub puts : AllByRecursion (λ e. put e ≡ closed (edge e)) l.row.outs
     pub number : (net_does b).rejects u ≡ counted (length (rejected_by b l.row.kind l.net (map edge l.row.ins)))
     pub kept : keep ≡ true → (net_does b).taken u ++ (net_does b).kept u ≡ rejected_by b l.row.kind l.net (map edge l.row.ins)
     pub none : keep ≡ false → (net_does b).kept u ≡ []
-    pub calm : (m : ℕ) → IsOverAt m l.row.kind l.net [] → ⊥
+    -- it tells that it is over exactly where its log is over the limit
+    pub past : over_net u ≡ true → IsOverAt m l.row.kind l.net (log_of_net u)
+    pub over : IsOverAt m l.row.kind l.net (log_of_net u) → over_net u ≡ true
 
-  pub IsEndedAt-unit : (u : NetState N) (l : Laid N) → opening_net b u ≡ opened_unit b keep l → HasShape l
+  pub IsEndedAt-unit : (u : NetState N) (l : Laid N) → opening_net b u ≡ opened_unit b m keep l → HasShape b l
       → AllByRecursion (λ e. EndsOnce (put e)) l.row.ins → AllByRecursion (λ e. EndsOnce (put e)) l.row.outs
       → Ran (net_does b) u (map got l.row.ins) (map put l.row.outs) → HasEndedWell (net_does b) u → IsEndedAt l u
   IsEndedAt-unit u l made shape once_in once_out ran ended = record {
-    fits = λ m. subst (λ ins. FitsUnit b m l [] ins (map edge l.row.outs)) (sym ins_are)
-        (subst (λ outs. FitsUnit b m l [] whole.ins outs) (sym outs_are.0) (FitsUnit-unit b kind keep u l made shape m whole.ins whole.outs whole.fits));
+    fits = subst (λ ins. FitsUnit b m l (log_of_net u) ins (map edge l.row.outs)) (sym ins_are)
+        (subst (λ outs. FitsUnit b m l (log_of_net u) whole.ins outs) (sym outs_are.0) (FitsUnit-unit b kind m keep u l made shape whole.ins whole.outs whole.fits));
     puts = outs_are.1;
     number = rejects.number_is ∙ ap (λ xs. counted (length xs)) rejected;
-    kept = λ k. kept-unit b kind keep u l made shape (map got l.row.ins) rejects k ∙ rejected;
-    none = none-unit b kind keep u l made shape (map got l.row.ins) rejects;
-    calm = calm-unit b kind keep u l made shape;
+    kept = λ k. kept-unit b kind m keep u l made shape (map got l.row.ins) rejects k ∙ rejected;
+    none = none-unit b kind m keep u l made shape (map got l.row.ins) rejects;
+    past = past-unit b kind m keep u l made shape (map got l.row.ins) (map put l.row.outs) ran;
+    over = over-unit b kind m keep u l made shape (map got l.row.ins) (map put l.row.outs) ran;
   }
     where
       whole : FitsWhole ((net_does b).Fits u) (map got l.row.ins) (map put l.row.outs)
@@ -109,5 +112,5 @@ module _ {N : Type 0} (b : Behaviour N) (kind : KeepsKind b) (laws : IsUnit (net
 
       rejected : (net_does b).rejected u (map got l.row.ins) ≡ rejected_by b l.row.kind l.net (map edge l.row.ins)
       rejected =
-          ap ((net_does b).rejected u) whole.gots_are ∙ rejected-unit b kind keep u l made shape whole.ins
+          ap ((net_does b).rejected u) whole.gots_are ∙ rejected-unit b kind m keep u l made shape whole.ins
           ∙ ap (rejected_by b l.row.kind l.net) (sym ins_are)

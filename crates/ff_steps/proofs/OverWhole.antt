@@ -10,12 +10,13 @@ use Rattle.ff_node.specs.Comb.{comb_node, running}
 use Rattle.ff_node.specs.Runs.{Message}
 use Rattle.ff_node.specs.Sends.{counted}
 use Rattle.ff_net.specs.Counts.{edges}
-use Rattle.ff_net.specs.Forms.{has_wrap, has_copies}
+use Rattle.ff_net.specs.Forms.{has_copies}
 use Rattle.ff_net.specs.Good.{Good}
+use Rattle.ff_net.specs.Meaning.{Fine}
 use Rattle.ff_net.specs.Nodes.{nodes_in, node_groups}
 use Rattle.ff_net.specs.Tree.{Tree}
 use Rattle.ff_net.proofs.NodeGroups.{joined-node_groups}
-use Rattle.ff_plan.specs.Histories.{rejected_by}
+use Rattle.ff_plan.specs.Histories.{IsHistory, rejected_by}
 use Rattle.ff_plan.specs.Laying.{units_of}
 use Rattle.ff_plan.specs.PlanLaws.{Answered, WholeRuns}
 use Rattle.ff_plan.specs.Plans.{rows_of}
@@ -25,13 +26,12 @@ use Rattle.ff_plan.proofs.JoinedUnits.{is_joined}
 use Rattle.ff_plan.proofs.LaidUnits.{length-rows_of}
 use Rattle.ff_unit.specs.MessageLaws.{IsOpen-carried}
 use Rattle.ff_unit.specs.Units.{Doing, IsUnit}
-use Rattle.ff_steps.specs.NetUnits.{NetState, net_does}
-use Rattle.ff_steps.specs.OverEdges.{RanAlong, RanOver, HasAnswered}
+use Rattle.ff_steps.specs.NetUnits.{NetState, net_does, any_over, log_of_net}
+use Rattle.ff_steps.specs.OverEdges.{RanAlong, RanOver, HasAnswered, IsOver}
 use Rattle.ff_steps.proofs.MessageLists.{items-carried}
 use Rattle.ff_steps.proofs.OneUnit.{no_copies-one_unit}
-use Rattle.ff_steps.proofs.OverBegins.{no_logs}
 use Rattle.ff_steps.proofs.OverEnds.{before_eos, before_eos-whole, HasEndedWell}
-use Rattle.ff_steps.proofs.OverLists.{AreEnded, AreEnded-units, IsHistory-ended, calm-ended, OnOuts-ended, number-ended, kept-ended, none-ended}
+use Rattle.ff_steps.proofs.OverLists.{AreEnded, AreEnded-units, IsHistory-ended, past-ended, calm-ended, OnOuts-ended, number-ended, kept-ended, none-ended}
 use Rattle.ff_steps.proofs.PlanStages.{AreStages, AreStages-lay, OnIns, OnIns-lay}
 use Rattle.ff_steps.proofs.Ports.{each-port, port-each, each-front}
 use Rattle.ff_steps.proofs.PutsOpen.{EndsOnce, EndsOnce-ran, open-net}
@@ -53,8 +53,8 @@ length-along d got put [] (u ∷ units) ran = absurd ran
 length-along d got put (row ∷ rows) [] ran = absurd ran
 length-along d got put (row ∷ rows) (u ∷ units) ran = ap suc (length-along d got put rows units ran.1)
 
-module _ {N : Type 0} (b : Behaviour N) (kind : KeepsKind b) (laws : IsUnit (net_does b)) (keep : Bool) (t : Tree N) (free : has_wrap t ≡ false) (good : Good b t)
-    (units : List (NetState N)) (got put : ℕ → List Message) (over : RanOver b keep t units got put) (ended : AllByRecursion (HasEndedWell (net_does b)) units)
+module _ {N : Type 0} (b : Behaviour N) (kind : KeepsKind b) (laws : IsUnit (net_does b)) (m : ℕ) (keep : Bool) (t : Tree N) (good : Good b t)
+    (units : List (NetState N)) (got put : ℕ → List Message) (over : RanOver b m keep t units got put) (ended : AllByRecursion (HasEndedWell (net_does b)) units)
     (xs : List Rec) (fed : put 0 ≡ closed (carried xs)) where
   joined : IsJoined t
   joined = is_joined b t good
@@ -93,9 +93,9 @@ module _ {N : Type 0} (b : Behaviour N) (kind : KeepsKind b) (laws : IsUnit (net
   side-along side P ls each =
       to-map side (AllByRecursion P) (map (λ (l : Laid N). l.row) ls) (to-map (λ (l : Laid N). l.row) (λ row. AllByRecursion P (side row)) ls each)
 
-  all_ended : AreEnded b kind laws keep got put over.first (units_of t) units
+  all_ended : AreEnded b kind laws m keep got put over.first (units_of t) units
   all_ended =
-      AreEnded-units b kind laws keep got put over.first units (units_of t) (shapes-lay b t free good [] 0 1 2)
+      AreEnded-units b kind laws m keep got put over.first units (units_of t) (shapes-lay b t good [] 0 1 2)
       (along-side (λ row. row.ins) (λ e. EndsOnce (put e)) (units_of t) once-ins) (along-side (λ row. row.outs) (λ e. EndsOnce (put e)) (units_of t) once-outs)
       over.made over.ran ended
 
@@ -104,20 +104,29 @@ module _ {N : Type 0} (b : Behaviour N) (kind : KeepsKind b) (laws : IsUnit (net
   first-edge = before_eos-whole (carried xs) (put 0) (IsOpen-carried xs) fed
 
   -- what the plan law says of them
-  answered : (m : ℕ) → WholeRuns b m t → Answered b m t xs (λ e. before_eos (put e))
-  answered m runs =
-      (runs (λ e. before_eos (put e)) (no_logs (units_of t)) xs (IsHistory-ended b kind laws keep got put over.first m (units_of t) units all_ended) first-edge).1
-      (calm-ended b kind laws keep got put over.first m (units_of t) units all_ended)
+  history : IsHistory b m (units_of t) (λ e. before_eos (put e)) (map log_of_net units)
+  history = IsHistory-ended b kind laws m keep got put over.first (units_of t) units all_ended
+
+  answered : WholeRuns b m t → any_over units ≡ false → Answered b m t xs (λ e. before_eos (put e))
+  answered runs none =
+      (runs (λ e. before_eos (put e)) (map log_of_net units) xs history first-edge).1
+      (calm-ended b kind laws m keep got put over.first (units_of t) units all_ended none)
+
+  -- where some unit is over, the network's meaning is
+  pub Over-over : WholeRuns b m t → IsOver units → ¬ Fine b m t xs
+  Over-over runs is_over =
+      (runs (λ e. before_eos (put e)) (map log_of_net units) xs history first-edge).0
+      (past-ended b kind laws m keep got put over.first (units_of t) units all_ended is_over)
 
   last-edge : put 1 ≡ closed (before_eos (put 1))
   last-edge =
       let j = joined.written 1 (omega arith) (λ is. omega (arith, is)) in
       each-port (λ e. put e ≡ closed (before_eos (put e))) (unit_outs (rows_of t)) 1 j.party j.port
-      (side-along (λ row. row.outs) (λ e. put e ≡ closed (before_eos (put e))) (units_of t) (OnOuts-ended b kind laws keep got put over.first (units_of t) units all_ended)) j.at
+      (side-along (λ row. row.outs) (λ e. put e ≡ closed (before_eos (put e))) (units_of t) (OnOuts-ended b kind laws m keep got put over.first (units_of t) units all_ended)) j.at
 
   -- the rejects of a unit alone, in their order
   kept_of_stage : keep ≡ true → (us : List (NetState N)) (ls : List (Laid N)) (groups : List (List N)) → length us ≡ 1 → AreStages ls groups
-      → AreEnded b kind laws keep got put over.first ls us → ((P : ℕ → Type 0) → OnIns P ls → P 0) → flat_map (λ g. g) groups ≡ nodes_in t
+      → AreEnded b kind laws m keep got put over.first ls us → ((P : ℕ → Type 0) → OnIns P ls → P 0) → flat_map (λ g. g) groups ≡ nodes_in t
       → flat_map (net_does b).taken us ++ flat_map (net_does b).kept us ≡ node_rejected (comb_node b) (running (map b.opening (nodes_in t))) xs
   kept_of_stage k [] ls groups one are done reads nodes = absurd (omega (arith, one))
   kept_of_stage k (u ∷ v ∷ us) ls groups one are done reads nodes = absurd (omega (arith, one))
@@ -135,17 +144,17 @@ module _ {N : Type 0} (b : Behaviour N) (kind : KeepsKind b) (laws : IsUnit (net
 
   -- a unit alone is a stage
   no_copies : length units ≡ 1 → has_copies t ≡ false
-  no_copies one = no_copies-one_unit b t free good (sym (length-rows_of t) ∙ length-along (net_does b) got put (rows_of t) units over.ran ∙ one)
+  no_copies one = no_copies-one_unit b t good (sym (length-rows_of t) ∙ length-along (net_does b) got put (rows_of t) units over.ran ∙ one)
 
-  pub HasAnswered-over : (m : ℕ) → WholeRuns b m t → HasAnswered b m keep t xs units put
-  HasAnswered-over m runs =
-      let a = answered m runs in record {
+  pub HasAnswered-over : WholeRuns b m t → any_over units ≡ false → HasAnswered b m keep t xs units put
+  HasAnswered-over runs none =
+      let a = answered runs none in record {
         ys = a.ys;
         carries = last-edge ∙ ap closed a.carries;
         answers = a.answers;
-        number = number-ended b kind laws keep got put over.first (units_of t) units all_ended ∙ ap counted (sym (Same-length a.rejects));
-        kept = λ k. Same-trans (kept-ended b kind laws keep got put over.first k (units_of t) units all_ended) (Same-sym a.rejects);
+        number = number-ended b kind laws m keep got put over.first (units_of t) units all_ended ∙ ap counted (sym (Same-length a.rejects));
+        kept = λ k. Same-trans (kept-ended b kind laws m keep got put over.first k (units_of t) units all_ended) (Same-sym a.rejects);
         kept_of_one = λ k one. kept_of_stage k units (units_of t) (node_groups t) one (AreStages-lay [] t 0 1 2 (no_copies one)) all_ended
             (λ P on. OnIns-lay b P [] t 0 1 2 (no_copies one) good on) (joined-node_groups t (no_copies one));
-        none = λ k. none-ended b kind laws keep got put over.first k (units_of t) units all_ended;
+        none = λ k. none-ended b kind laws m keep got put over.first k (units_of t) units all_ended;
       }

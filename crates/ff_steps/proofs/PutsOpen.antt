@@ -9,7 +9,7 @@ use Rattle.ff_node.specs.Runs.{Message, Act, Took, Gave, Refused, Idle, Told, Ha
 use Rattle.ff_unit.specs.Deals.{DealState, DealReady, DealGives, AreOpenOuts}
 use Rattle.ff_unit.specs.Units.{Doing, IsUnit, Ran, RanFrom}
 use Rattle.ff_unit.proofs.UnitRuns.{opening-leads}
-use Rattle.ff_steps.specs.NetUnits.{NetState, AsStage, AsDeal, AsMerge, AsOMerge, NetStep, net_does}
+use Rattle.ff_steps.specs.NetUnits.{NetState, AsStage, AsDeal, AsMerge, AsOMerge, AsMaster, AsWorker, NetStep, net_does}
 use Rattle.ff_steps.proofs.Heads.{head-same, tail-same, cons≢nil}
 
 -- at most one message stands behind open ones
@@ -92,4 +92,7 @@ module _ {N : Type 0} (b : Behaviour N) where
   open-net (AsMerge u) gots puts k m v ready step =
       subst (λ j. IsOpen (at puts j)) (sym step.2.0) (open_out u.held step.0.held m (at puts 0) ready.open_out step.2.1)
   open-net (AsOMerge u) gots puts k m v ready step =
+      subst (λ j. IsOpen (at puts j)) (sym step.2.0) (open_out u.held step.0.held m (at puts 0) ready.open_out step.2.1)
+  open-net (AsMaster u) gots puts k m v ready step = (subst (AreOpenOuts puts) step.2.1 ready.open_held).1
+  open-net (AsWorker u) gots puts k m v ready step =
       subst (λ j. IsOpen (at puts j)) (sym step.2.0) (open_out u.held step.0.held m (at puts 0) ready.open_out step.2.1)

@@ -1,10 +1,10 @@
--- Stages of which either is the other before its first record.
+-- Stages, and workers of wraps, of which either is the other before its first record.
 use Rattle.std.proofs.Common.{◌≡◌, List, [], ◌∷◌, ◌++◌, flat_map, refl, sym, ap, ap₂, ◌∙◌}
 use Rattle.ff_rec.specs.Lines.{Rec}
 use Rattle.ff_rec.specs.Streams.{at, carried}
 use Rattle.ff_rec.specs.declared.msg.Msg.TheVariants.{Item, Mark, Pick, Eos as EosMsg, Abort as AbortMsg}
 use Rattle.ff_node.specs.Behaviour.{Behaviour, KeepsKind, sent_from, rejected_from, node_rejected}
-use Rattle.ff_node.specs.Fits.{FitsStage, replaced}
+use Rattle.ff_node.specs.Fits.{FitsStage, FitsWorker, replaced}
 use Rattle.ff_node.specs.Runs.{Message}
 
 -- what is said of a node holds of any other that is the same before its first record
@@ -26,6 +26,13 @@ module _ {S : Type 0} (b : Behaviour S) (kind : KeepsKind b) (n o : S) (same : b
     one_out = fits.one_out;
     unmarked = λ xs are. fits.unmarked xs are ∙ ap (λ s. carried (sent_from b s xs)) same;
     plain = λ plain marked. fits.plain (sym (kind.class_of_opening n) ∙ ap b.class same ∙ kind.class_of_opening o ∙ plain) marked ∙ all_replaced-same (at ins 0);
+  }
+
+  pub FitsWorker-same : (ins outs : List (List Message)) → FitsWorker b n ins outs → FitsWorker b o ins outs
+  FitsWorker-same ins outs fits = record {
+    one_in = fits.one_in;
+    one_out = fits.one_out;
+    tasks = λ xs are. fits.tasks xs are ∙ ap (λ s. flat_map (λ x. carried (b.sends s x) ++ Mark ∷ []) xs) same;
   }
 
   pub node_rejected-same : (xs : List Rec) → node_rejected b n xs ≡ node_rejected b o xs

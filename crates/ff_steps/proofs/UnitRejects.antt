@@ -6,16 +6,16 @@ use Rattle.ff_node.specs.Behaviour.{Behaviour, KeepsKind, node_rejected}
 use Rattle.ff_node.specs.Comb.{comb_node}
 use Rattle.ff_node.specs.CombKindLaws.{comb_keeps_kind}
 use Rattle.ff_node.specs.Runs.{Message}
-use Rattle.ff_net.specs.Tree.{Tree}
+use Rattle.ff_net.specs.Tree.{Tree, Leaf, Pipe, Comb, Farm, OFarm, A2a, Wrap}
 use Rattle.ff_plan.specs.declared.kind.UnitKind.{UnitKind}
 use Rattle.ff_plan.specs.declared.kind.UnitKind.TheVariants.{Stage, DealRr, DealOd, DealBy, Merge, ODealRr, ODealOd, OMergeTurn, OMergePick, Master, Worker}
 use Rattle.ff_plan.specs.Histories.{group_of, rejected_by}
 use Rattle.ff_plan.specs.Rows.{Laid}
 use Rattle.ff_unit.specs.MessageLaws.{items-append}
 use Rattle.ff_unit.specs.Units.{HasRejects}
-use Rattle.ff_steps.specs.NetUnits.{NetState, AsStage, AsDeal, AsMerge, AsOMerge, net_does, opening_net}
-use Rattle.ff_steps.specs.PlanUnits.{opened_kind, opened_unit}
-use Rattle.ff_steps.proofs.Shapes.{IsShaped, HasShape}
+use Rattle.ff_steps.specs.NetUnits.{NetState, AsStage, AsDeal, AsMerge, AsOMerge, AsMaster, AsWorker, net_does, opening_net}
+use Rattle.ff_steps.specs.PlanUnits.{opened_kind, opened_unit, master_unit}
+use Rattle.ff_steps.proofs.Shapes.{IsMasterOf, IsShaped, HasShape}
 use Rattle.ff_steps.proofs.StageSame.{node_rejected-same}
 
 -- what a list carries is what it carries before its end
@@ -23,14 +23,16 @@ items-first : (ins : List (List Message)) → items (at (map closed ins) 0) ≡ 
 items-first [] = refl
 items-first (ms ∷ ins) = items-append ms (Eos ∷ []) ∙ append-nil (items ms)
 
--- whether a stage keeps its rejects; any other unit has none
+-- whether a stage or a worker keeps its rejects; any other unit has none
 keeps_or : {N : Type 0} → Bool → NetState N → Bool
 keeps_or keep (AsStage u) = u.keeps
 keeps_or keep (AsDeal u) = keep
 keeps_or keep (AsMerge u) = keep
 keeps_or keep (AsOMerge u) = keep
+keeps_or keep (AsMaster u) = keep
+keeps_or keep (AsWorker u) = u.keeps
 
-module _ {N : Type 0} (b : Behaviour N) (kind : KeepsKind b) (keep : Bool) where
+module _ {N : Type 0} (b : Behaviour N) (kind : KeepsKind b) (m : ℕ) (keep : Bool) where
   -- a unit rejects what it rejected before its first step
   rejected-opening : (u : NetState N) (gots : List (List Message)) → (net_does b).rejected u gots ≡ (net_does b).rejected (opening_net b u) gots
   rejected-opening (AsStage u) gots =
@@ -38,10 +40,33 @@ module _ {N : Type 0} (b : Behaviour N) (kind : KeepsKind b) (keep : Bool) where
   rejected-opening (AsDeal u) gots = refl
   rejected-opening (AsMerge u) gots = refl
   rejected-opening (AsOMerge u) gots = refl
+  rejected-opening (AsMaster u) gots = refl
+  rejected-opening (AsWorker u) gots =
+      node_rejected-same (comb_node b) (comb_keeps_kind b kind) u.node ((comb_node b).opening u.node) (sym ((comb_keeps_kind b kind).opening_of_opening u.node)) (items (at gots 0))
+
+  -- a master rejects nothing
+  rejected-master : (t : Tree N) (n k : ℕ) (gots : List (List Message)) → IsMasterOf t n k → (net_does b).rejected (master_unit b m keep t) gots ≡ []
+  rejected-master (Leaf o) n k gots shape = absurd shape
+  rejected-master (Pipe ts) n k gots shape = absurd shape
+  rejected-master (Comb ts) n k gots shape = absurd shape
+  rejected-master (Farm c s w) n k gots shape = absurd shape
+  rejected-master (OFarm c s w) n k gots shape = absurd shape
+  rejected-master (A2a c l r j v) n k gots shape = absurd shape
+  rejected-master (Wrap c w p) n k gots shape = refl
+
+  keeps-master : (t : Tree N) → keeps_or keep (master_unit b m keep t) ≡ keep
+  unfolding keeps_or
+  keeps-master (Leaf o) = refl
+  keeps-master (Pipe ts) = refl
+  keeps-master (Comb ts) = refl
+  keeps-master (Farm c s w) = refl
+  keeps-master (OFarm c s w) = refl
+  keeps-master (A2a c l r j v) = refl
+  keeps-master (Wrap c w p) = refl
 
   -- by the kinds
-  rejected-kind : (is_of : UnitKind) (t : Tree N) (n k : ℕ) (gots : List (List Message)) → IsShaped is_of n k
-      → (net_does b).rejected (opened_kind b keep is_of t n k) gots ≡ rejected_by b is_of t gots
+  rejected-kind : (is_of : UnitKind) (t : Tree N) (n k : ℕ) (gots : List (List Message)) → IsShaped b is_of t n k
+      → (net_does b).rejected (opened_kind b m keep is_of t n k) gots ≡ rejected_by b is_of t gots
   rejected-kind Stage t n k gots shape =
       node_rejected-same (comb_node b) (comb_keeps_kind b kind) ((comb_node b).opening (group_of b t)) (group_of b t) ((comb_keeps_kind b kind).opening_of_opening (group_of b t)) (items (at gots 0))
   rejected-kind DealRr t n k gots shape = refl
@@ -52,8 +77,9 @@ module _ {N : Type 0} (b : Behaviour N) (kind : KeepsKind b) (keep : Bool) where
   rejected-kind ODealOd t n k gots shape = refl
   rejected-kind OMergeTurn t n k gots shape = refl
   rejected-kind OMergePick t n k gots shape = refl
-  rejected-kind Master t n k gots shape = absurd shape
-  rejected-kind Worker t n k gots shape = absurd shape
+  rejected-kind Master t n k gots shape = rejected-master t n k gots shape
+  rejected-kind Worker t n k gots shape =
+      node_rejected-same (comb_node b) (comb_keeps_kind b kind) ((comb_node b).opening (group_of b t)) (group_of b t) ((comb_keeps_kind b kind).opening_of_opening (group_of b t)) (items (at gots 0))
 
   rejected_by-closed : (is_of : UnitKind) (t : Tree N) (ins : List (List Message)) → rejected_by b is_of t (map closed ins) ≡ rejected_by b is_of t ins
   rejected_by-closed Stage t ins = ap (λ xs. node_rejected (comb_node b) (group_of b t) xs) (items-first ins)
@@ -68,7 +94,7 @@ module _ {N : Type 0} (b : Behaviour N) (kind : KeepsKind b) (keep : Bool) where
   rejected_by-closed Master t ins = refl
   rejected_by-closed Worker t ins = ap (λ xs. node_rejected (comb_node b) (group_of b t) xs) (items-first ins)
 
-  keeps-kind : (is_of : UnitKind) (t : Tree N) (n k : ℕ) → keeps_or keep (opened_kind b keep is_of t n k) ≡ keep
+  keeps-kind : (is_of : UnitKind) (t : Tree N) (n k : ℕ) → keeps_or keep (opened_kind b m keep is_of t n k) ≡ keep
   unfolding keeps_or
   keeps-kind Stage t n k = refl
   keeps-kind DealRr t n k = refl
@@ -79,7 +105,7 @@ module _ {N : Type 0} (b : Behaviour N) (kind : KeepsKind b) (keep : Bool) where
   keeps-kind ODealOd t n k = refl
   keeps-kind OMergeTurn t n k = refl
   keeps-kind OMergePick t n k = refl
-  keeps-kind Master t n k = refl
+  keeps-kind Master t n k = keeps-master t
   keeps-kind Worker t n k = refl
 
   keeps-opening : (u : NetState N) → keeps_or keep u ≡ keeps_or keep (opening_net b u)
@@ -88,6 +114,8 @@ module _ {N : Type 0} (b : Behaviour N) (kind : KeepsKind b) (keep : Bool) where
   keeps-opening (AsDeal u) = refl
   keeps-opening (AsMerge u) = refl
   keeps-opening (AsOMerge u) = refl
+  keeps-opening (AsMaster u) = refl
+  keeps-opening (AsWorker u) = refl
 
   -- a unit that has ended holds its rejects behind those that were taken out, where they are kept
   kept-of : (u : NetState N) (gots : List (List Message)) → keeps_or keep u ≡ keep → HasRejects (net_does b) u gots → keep ≡ true
@@ -97,6 +125,8 @@ module _ {N : Type 0} (b : Behaviour N) (kind : KeepsKind b) (keep : Bool) where
   kept-of (AsDeal u) gots keeps r on = refl
   kept-of (AsMerge u) gots keeps r on = refl
   kept-of (AsOMerge u) gots keeps r on = refl
+  kept-of (AsMaster u) gots keeps r on = refl
+  kept-of (AsWorker u) gots keeps r on = r.kept_are (keeps ∙ on)
 
   none-of : (u : NetState N) (gots : List (List Message)) → keeps_or keep u ≡ keep → HasRejects (net_does b) u gots → keep ≡ false → (net_does b).kept u ≡ []
   unfolding keeps_or
@@ -104,9 +134,11 @@ module _ {N : Type 0} (b : Behaviour N) (kind : KeepsKind b) (keep : Bool) where
   none-of (AsDeal u) gots keeps r off = refl
   none-of (AsMerge u) gots keeps r off = refl
   none-of (AsOMerge u) gots keeps r off = refl
+  none-of (AsMaster u) gots keeps r off = refl
+  none-of (AsWorker u) gots keeps r off = r.none (keeps ∙ off)
 
   -- a unit that was this one of the plan before its first step
-  module _ (u : NetState N) (l : Laid N) (made : opening_net b u ≡ opened_unit b keep l) (shape : HasShape l) where
+  module _ (u : NetState N) (l : Laid N) (made : opening_net b u ≡ opened_unit b m keep l) (shape : HasShape b l) where
     pub rejected-unit : (ins : List (List Message)) → (net_does b).rejected u (map closed ins) ≡ rejected_by b l.row.kind l.net ins
     rejected-unit ins =
         rejected-opening u (map closed ins) ∙ ap (λ v. (net_does b).rejected v (map closed ins)) made

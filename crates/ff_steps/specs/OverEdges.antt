@@ -14,7 +14,7 @@ use Rattle.ff_net.specs.Tree.{Tree}
 use Rattle.ff_plan.specs.Plans.{rows_of}
 use Rattle.ff_plan.specs.Rows.{Row}
 use Rattle.ff_unit.specs.Units.{Doing, Ran}
-use Rattle.ff_steps.specs.NetUnits.{NetState, net_does}
+use Rattle.ff_steps.specs.NetUnits.{NetState, net_does, any_over}
 use Rattle.ff_steps.specs.PlanUnits.{opened_units}
 
 -- each unit is reached by its own steps, which took what was got from the edges of its ins and put what was put on those of its outs
@@ -24,15 +24,19 @@ RanAlong d got put [] (u ∷ units) = ⊥
 RanAlong d got put (row ∷ rows) [] = ⊥
 RanAlong d got put (row ∷ rows) (u ∷ units) = Ran d u (map got row.ins) (map put row.outs) × RanAlong d got put rows units
 
--- the units of a network without a wrap, with what was got from each edge of its plan and what was put on it
-pub record RanOver {N : Type 0} (b : Behaviour N) (keep : Bool) (t : Tree N) (units : List (NetState N)) (got put : ℕ → List Message) : Type 0 where
+-- the units of a network of which a wrap may have `m` tasks, with what was got from each edge of its plan and what was put on it
+pub record RanOver {N : Type 0} (b : Behaviour N) (m : ℕ) (keep : Bool) (t : Tree N) (units : List (NetState N)) (got put : ℕ → List Message) : Type 0 where
   -- what they were before their first steps
-  pub made : map (net_does b).opening units ≡ opened_units b keep t
+  pub made : map (net_does b).opening units ≡ opened_units b m keep t
   -- what was got is the first of what was put
   pub first : (e : ℕ) → (rest : List Message) × (put e ≡ got e ++ rest)
   pub ran : RanAlong (net_does b) got put (rows_of t) units
 
--- all units have ended with their ins: the last edge carries an answer, and they rejected what the network rejects
+-- more tasks came to some master than the limit allows
+abbrev pub IsOver : {N : Type 0} → List (NetState N) → Type 0
+IsOver units = any_over units ≡ true
+
+-- all units have ended with their ins, and no master is over its limit: the last edge carries an answer, and they rejected what the network rejects
 pub record HasAnswered {N : Type 0} (b : Behaviour N) (m : ℕ) (keep : Bool) (t : Tree N) (xs : List Rec) (units : List (NetState N)) (put : ℕ → List Message) : Type 0 where
   pub ys : List Rec
   pub carries : put 1 ≡ closed (carried ys)

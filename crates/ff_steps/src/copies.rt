@@ -23,6 +23,7 @@ pub(crate) fn add_farm<N: Node>(
     workers: u32,
     sched: Sched,
     worker: &Net<N>,
+    limit: u64,
     keep: bool,
     units: &mut Vec<NetUnit<N>>,
 ) -> Result<(), NoMemory>
@@ -30,10 +31,10 @@ pub(crate) fn add_farm<N: Node>(
     requires few { workers ≤ 64 }
     requires good { Good N.does (tree_of worker.now) }
     ensures { OnOk result (units.new.items
-        ≡ units.old.items ++ units_in N.does keep (Farm workers sched (tree_of worker.now))) }
+        ≡ units.old.items ++ units_in N.does limit keep (Farm workers sched (tree_of worker.now))) }
 {
     units.push(NetUnit::of_deal(farm_deal(sched, workers)))?;
-    add_copies(alloc, worker, workers, keep, units)?;
+    add_copies(alloc, worker, workers, limit, keep, units)?;
     units.push(NetUnit::of_merge(Merge::new(workers)))?;
     Ok(())
 }
@@ -45,6 +46,7 @@ pub(crate) fn add_ofarm<N: Node>(
     workers: u32,
     sched: Sched,
     worker: &Net<N>,
+    limit: u64,
     keep: bool,
     units: &mut Vec<NetUnit<N>>,
 ) -> Result<(), NoMemory>
@@ -52,10 +54,10 @@ pub(crate) fn add_ofarm<N: Node>(
     requires few { workers ≤ 64 }
     requires good { Good N.does (tree_of worker.now) }
     ensures { OnOk result (units.new.items
-        ≡ units.old.items ++ units_in N.does keep (OFarm workers sched (tree_of worker.now))) }
+        ≡ units.old.items ++ units_in N.does limit keep (OFarm workers sched (tree_of worker.now))) }
 {
     units.push(NetUnit::of_odeal(group_deal(sched, workers)))?;
-    add_copies(alloc, worker, workers, keep, units)?;
+    add_copies(alloc, worker, workers, limit, keep, units)?;
     units.push(NetUnit::of_omerge(group_merge(sched, workers)))?;
     Ok(())
 }
@@ -66,6 +68,7 @@ pub(crate) fn add_left_set<N: Node>(
     alloc: Global,
     nodes: u32,
     node: &Net<N>,
+    limit: u64,
     keep: bool,
     units: &mut Vec<NetUnit<N>>,
 ) -> Result<(), NoMemory>
@@ -73,10 +76,10 @@ pub(crate) fn add_left_set<N: Node>(
     requires few { nodes ≤ 64 }
     requires good { Good N.does (tree_of node.now) }
     ensures { OnOk result (units.new.items ≡ units.old.items
-        ++ AsDeal (opened_deal Dealing.InTurn nodes) ∷ times nodes (units_in N.does keep (tree_of node.now))) }
+        ++ AsDeal (opened_deal Dealing.InTurn nodes) ∷ times nodes (units_in N.does limit keep (tree_of node.now))) }
 {
     units.push(NetUnit::of_deal(Deal::strict(nodes)))?;
-    add_copies(alloc, node, nodes, keep, units)
+    add_copies(alloc, node, nodes, limit, keep, units)
 }
 
 /// Adds the last units of an all-to-all: the right set and its merge.
@@ -85,6 +88,7 @@ pub(crate) fn add_right_set<N: Node>(
     alloc: Global,
     nodes: u32,
     node: &Net<N>,
+    limit: u64,
     keep: bool,
     units: &mut Vec<NetUnit<N>>,
 ) -> Result<(), NoMemory>
@@ -92,9 +96,9 @@ pub(crate) fn add_right_set<N: Node>(
     requires few { nodes ≤ 64 }
     requires good { Good N.does (tree_of node.now) }
     ensures { OnOk result (units.new.items ≡ units.old.items
-        ++ (times nodes (units_in N.does keep (tree_of node.now)) ++ AsMerge (opened_merge nodes) ∷ [])) }
+        ++ (times nodes (units_in N.does limit keep (tree_of node.now)) ++ AsMerge (opened_merge nodes) ∷ [])) }
 {
-    add_copies(alloc, node, nodes, keep, units)?;
+    add_copies(alloc, node, nodes, limit, keep, units)?;
     units.push(NetUnit::of_merge(Merge::new(nodes)))?;
     Ok(())
 }
@@ -105,15 +109,16 @@ fn add_copies<N: Node>(
     alloc: Global,
     net: &Net<N>,
     copies: u32,
+    limit: u64,
     keep: bool,
     units: &mut Vec<NetUnit<N>>,
 ) -> Result<(), NoMemory>
     requires { Good N.does (tree_of net.now) }
     ensures { OnOk result (units.new.items
-        ≡ units.old.items ++ times copies (units_in N.does keep (tree_of net.now))) }
+        ≡ units.old.items ++ times copies (units_in N.does limit keep (tree_of net.now))) }
 {
     for _ in 0..copies {
-        add_units(alloc, net, keep, units)?;
+        add_units(alloc, net, limit, keep, units)?;
     }
     Ok(())
 }

@@ -18,6 +18,7 @@ mod row_ports;
 mod schedule;
 mod unit_step;
 mod units;
+mod wraps;
 
 pub use net_unit::NetUnit;
 pub use network::NetCore;

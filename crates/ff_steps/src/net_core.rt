@@ -79,6 +79,14 @@ impl<U: Unit> Core<U> {
         }
     }
 
+    /// Its units, in their order.
+    pub(crate) fn units(&self) -> &[U]
+        ensures units { result.now ≡ self.now.units }
+        ensures sound { IsSound U.does self.now }
+    {
+        &self.units
+    }
+
     /// What the drainer kept.
     pub(crate) fn output(&self) -> &Records
         ensures { result.now ≡ self.now.drainer.output }

@@ -1,7 +1,8 @@
 // A unit of a network, whatever it is.
 ghost use Rattle.std.specs.Prelude.{◌≡◌};
-ghost use Rattle.ff_steps.specs.NetUnits.{AsStage, AsDeal, AsMerge, AsOMerge};
+ghost use Rattle.ff_steps.specs.NetUnits.{AsStage, AsDeal, AsMerge, AsOMerge, AsMaster, AsWorker, over_net};
 
+use ff_loop::{WrapMaster, WrapWorker};
 use ff_node::{Comb, Node};
 use ff_order::{ODeal, OMerge};
 use ff_port::{End, Ports, Step};
@@ -9,7 +10,7 @@ use ff_rec::Record;
 use ff_unit::{Deal, Merge, Stage, Unit};
 use std::marker::Model;
 
-/// A unit of a network: a stage, a deal, a merge, or the deal or merge of an ordered farm.
+/// A unit of a network: a stage, a deal, a merge, the deal or merge of an ordered farm, or the master or a worker of a wrap.
 #[derive(Drop)]
 pub struct NetUnit<N> {
     part: Part<N>,
@@ -23,6 +24,8 @@ enum Part<N> {
     ODeal(ODeal),
     Merge(Merge),
     OMerge(OMerge),
+    Master(WrapMaster),
+    Worker(WrapWorker<Comb<N>>),
 }
 
 impl<N> Model for NetUnit<N> {
@@ -79,6 +82,34 @@ impl<N> NetUnit<N> {
             part: Part::OMerge(merge),
         }
     }
+
+    /// A unit that is this master of a wrap.
+    pub(crate) fn of_master(master: WrapMaster) -> NetUnit<N>
+        ensures { result ≡ AsMaster master }
+    {
+        NetUnit {
+            part: Part::Master(master),
+        }
+    }
+
+    /// A unit that is this worker of a wrap.
+    pub(crate) fn of_worker(worker: WrapWorker<Comb<N>>) -> NetUnit<N>
+        ensures { result ≡ AsWorker worker }
+    {
+        NetUnit {
+            part: Part::Worker(worker),
+        }
+    }
+
+    /// Whether it is the master of a wrap to which more tasks came than the limit allows.
+    pub fn over(&self) -> bool
+        ensures { result ≡ over_net self.now }
+    {
+        match &self.part {
+            Part::Master(master) => master.over(),
+            _ => false,
+        }
+    }
 }
 
 impl<N: Node> Unit for NetUnit<N> {
@@ -94,6 +125,8 @@ impl<N: Node> Unit for NetUnit<N> {
             Part::ODeal(deal) => deal.step_once(ports),
             Part::Merge(merge) => merge.step_once(ports),
             Part::OMerge(merge) => merge.step_once(ports),
+            Part::Master(master) => master.step_once(ports),
+            Part::Worker(worker) => worker.step_once(ports),
         }
     }
 
@@ -104,6 +137,8 @@ impl<N: Node> Unit for NetUnit<N> {
             Part::ODeal(deal) => deal.end_aborted(),
             Part::Merge(merge) => merge.end_aborted(),
             Part::OMerge(merge) => merge.end_aborted(),
+            Part::Master(master) => master.end_aborted(),
+            Part::Worker(worker) => worker.end_aborted(),
         }
     }
 
@@ -114,6 +149,8 @@ impl<N: Node> Unit for NetUnit<N> {
             Part::ODeal(deal) => deal.take_kept(),
             Part::Merge(merge) => merge.take_kept(),
             Part::OMerge(merge) => merge.take_kept(),
+            Part::Master(master) => master.take_kept(),
+            Part::Worker(worker) => worker.take_kept(),
         }
     }
 
@@ -124,6 +161,8 @@ impl<N: Node> Unit for NetUnit<N> {
             Part::ODeal(deal) => deal.end(),
             Part::Merge(merge) => merge.end(),
             Part::OMerge(merge) => merge.end(),
+            Part::Master(master) => master.end(),
+            Part::Worker(worker) => worker.end(),
         }
     }
 
@@ -134,6 +173,8 @@ impl<N: Node> Unit for NetUnit<N> {
             Part::ODeal(deal) => deal.rejected(),
             Part::Merge(merge) => merge.rejected(),
             Part::OMerge(merge) => merge.rejected(),
+            Part::Master(master) => master.rejected(),
+            Part::Worker(worker) => worker.rejected(),
         }
     }
 

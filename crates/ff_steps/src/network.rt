@@ -1,5 +1,5 @@
 // The core of a network.
-ghost use Rattle.std.specs.Prelude.{◌≡◌, ◌≤◌, ℕ, true, false, length, sum_by, IfOk};
+ghost use Rattle.std.specs.Prelude.{◌≡◌, ◌≤◌, true, false, length, sum_by, IfOk};
 ghost use Rattle.ff_rec.specs.Weights.{Same};
 ghost use Rattle.ff_node.specs.Behaviour.{node_rejected};
 ghost use Rattle.ff_node.specs.Comb.{comb_node};
@@ -11,11 +11,12 @@ ghost use Rattle.ff_net.specs.Tree.{tree_of};
 ghost use Rattle.ff_plan.specs.Histories.{group_of};
 ghost use Rattle.ff_steps.specs.Core.{is_short, all_ended, taken_rejects, all_rejects, IsSound};
 ghost use Rattle.ff_steps.specs.Events.{Follows};
-ghost use Rattle.ff_steps.specs.NetCores.{opened_net, IsGood, IsNetCore};
-ghost use Rattle.ff_steps.specs.NetUnits.{net_does};
+ghost use Rattle.ff_steps.specs.NetCores.{opened_net, IsGood, IsNetCore, TellsOver};
+ghost use Rattle.ff_steps.specs.NetUnits.{net_does, any_over};
 ghost use Rattle.ff_steps.specs.Rejects.{Hands};
 
 use crate::NetUnit;
+use crate::ends::any_over;
 use crate::net_core::Core;
 use crate::opening::{queues, rows};
 use crate::schedule::run_schedule;
@@ -33,39 +34,42 @@ use std::alloc::Global;
 #[derive(Drop)]
 pub struct NetCore<N: Node> {
     checked: Checked<N>,
+    limit: u64,
     keep: bool,
     core: Core<NetUnit<N>>,
-    ghost made: { IsNetCore N.does keep (tree_of checked.net) core },
+    ghost made: { IsNetCore N.does limit keep (tree_of checked.net) core },
 }
 
 impl<N: Node> NetCore<N> {
-    /// A network without a wrap before its first event. Each queue holds `cap` messages, and where records are handed out on
-    /// demand one. The units keep their rejects where `keep` holds.
+    /// A network before its first event. Each queue holds `cap` messages, and where records are handed out on demand one. A wrap
+    /// may have `limit` tasks. The units keep their rejects where `keep` holds.
     pub fn new(
         alloc: Global,
         checked: Checked<N>,
         cap: u32,
+        limit: u64,
         keep: bool,
         input: Records,
     ) -> Result<NetCore<N>, NoMemory>
-        requires free { has_wrap (tree_of checked.net) ≡ false }
         requires low { 1 ≤ cap }
         requires high { cap ≤ 4096 }
         ensures opened { IfOk result (λ c. c.core
-            ≡ opened_net N.does keep (tree_of checked.net) cap input) }
-        ensures given { IfOk result (λ c. (c.checked ≡ checked) × (c.keep ≡ keep)) }
-        ensures good { IfOk result (λ c. IsGood N.does (tree_of checked.net) c.core) }
+            ≡ opened_net N.does limit keep (tree_of checked.net) cap input) }
+        ensures given { IfOk result (λ c. (c.checked ≡ checked)
+            × (c.limit ≡ limit) × (c.keep ≡ keep)) }
+        ensures good { IfOk result (λ c. IsGood N.does limit (tree_of checked.net) c.core) }
     {
         checked_networks_are_good(&checked);
         each_edge_has_two_ends(&checked);
         cut_runs(&checked);
-        let units = make_units(alloc, &checked, keep)?;
+        let units = make_units(alloc, &checked, limit, keep)?;
         let plan = plan(alloc, &checked, cap, Queue::Ring)?;
         let edges = queues(alloc, plan.edges())?;
         let rows = rows(alloc, plan.units())?;
         let core = Core::start(alloc, units, rows, edges, input);
         Ok(NetCore {
             checked,
+            limit,
             keep,
             core,
         })
@@ -73,24 +77,31 @@ impl<N: Node> NetCore<N> {
 
     /// One step of each named party in turn: the units by their numbers in the plan, then the feeder, then the drainer. A number
     /// that names none does nothing. It answers whether all have ended. Whatever the schedule is, the output is the first of an
-    /// answer at each moment; once all have ended, the output and the rejects are those of the network, if memory was never short.
+    /// answer at each moment, if no wrap is over its limit for this input. Once all have ended, and memory was never short, a unit
+    /// is over exactly where a wrap is; and where none is, the output and the rejects are those of the network.
     pub fn run_schedule(&mut self, schedule: &[u32]) -> bool
-        ensures follows { Follows (net_does N.does) (IsGood N.does (tree_of self.old.checked.net))
+        ensures follows { Follows (net_does N.does) (IsGood N.does self.old.limit (tree_of self.old.checked.net))
             schedule.now self.old.core self.new.core }
-        ensures same { (self.new.checked ≡ self.old.checked) × (self.new.keep ≡ self.old.keep) }
+        ensures same { (self.new.checked ≡ self.old.checked)
+            × (self.new.limit ≡ self.old.limit) × (self.new.keep ≡ self.old.keep) }
         ensures input { self.new.core.input ≡ self.old.core.input }
         ensures ended { result ≡ all_ended (net_does N.does) self.new.core }
         ensures taken { taken_rejects (net_does N.does) self.new.core
             ≡ taken_rejects (net_does N.does) self.old.core }
+        ensures over { result ≡ true → is_short (net_does N.does) self.new.core ≡ false
+            → TellsOver N.does self.new.limit (tree_of self.new.checked.net)
+            self.new.core.input self.new.core.units }
         ensures answers { result ≡ true → is_short (net_does N.does) self.new.core ≡ false
-            → (m : ℕ) → Answers N.does m (tree_of self.new.checked.net)
+            → any_over self.new.core.units ≡ false → Answers N.does self.new.limit (tree_of self.new.checked.net)
             self.new.core.input self.new.core.drainer.output }
         ensures rejects { result ≡ true → is_short (net_does N.does) self.new.core ≡ false
-            → (m : ℕ) → counted (sum_by (net_does N.does).rejects self.new.core.units)
-            ≡ mean_rejected_count N.does m (tree_of self.new.checked.net) self.new.core.input }
+            → any_over self.new.core.units ≡ false
+            → counted (sum_by (net_does N.does).rejects self.new.core.units)
+            ≡ mean_rejected_count N.does self.new.limit (tree_of self.new.checked.net) self.new.core.input }
         ensures held { result ≡ true → is_short (net_does N.does) self.new.core ≡ false
-            → self.new.keep ≡ true → (m : ℕ) → Same (all_rejects (net_does N.does) self.new.core)
-            (mean_rejected N.does m (tree_of self.new.checked.net) self.new.core.input) }
+            → any_over self.new.core.units ≡ false → self.new.keep ≡ true
+            → Same (all_rejects (net_does N.does) self.new.core)
+            (mean_rejected N.does self.new.limit (tree_of self.new.checked.net) self.new.core.input) }
         ensures held_of_one { result ≡ true → is_short (net_does N.does) self.new.core ≡ false
             → self.new.keep ≡ true → length self.new.core.units ≡ 1
             → all_rejects (net_does N.does) self.new.core
@@ -99,8 +110,8 @@ impl<N: Node> NetCore<N> {
         ensures held_of_node { result ≡ true → is_short (net_does N.does) self.new.core ≡ false
             → self.new.keep ≡ true → has_copies (tree_of self.new.checked.net) ≡ false
             → length (nodes_in (tree_of self.new.checked.net)) ≡ 1
-            → (m : ℕ) → all_rejects (net_does N.does) self.new.core
-            ≡ mean_rejected N.does m (tree_of self.new.checked.net) self.new.core.input }
+            → all_rejects (net_does N.does) self.new.core
+            ≡ mean_rejected N.does self.new.limit (tree_of self.new.checked.net) self.new.core.input }
     {
         checked_networks_are_good(&self.checked);
         whole_runs(&self.checked);
@@ -115,11 +126,12 @@ impl<N: Node> NetCore<N> {
         self.core.output()
     }
 
-    /// Whether it is over, whatever its parties do. A network without feedback never is.
+    /// Whether a unit is over: more tasks came to a wrap than the limit allows. A network without a wrap never is.
     pub fn over(&self) -> bool
-        ensures { result ≡ false }
+        ensures over { result ≡ any_over self.now.core.units }
+        ensures never { has_wrap (tree_of self.now.checked.net) ≡ false → result ≡ false }
     {
-        false
+        any_over(self.core.units())
     }
 
     /// Whether memory was short: a unit ended otherwise than by Eos, or the feeder or the drainer was refused memory.
@@ -140,7 +152,8 @@ impl<N: Node> NetCore<N> {
     pub fn take_reject(&mut self) -> Option<Record>
         ensures handed { Hands (net_does N.does) self.old.core.units result self.new.core.units }
         ensures others { self.new.core ≡ record self.old.core { units = self.new.core.units } }
-        ensures same { (self.new.checked ≡ self.old.checked) × (self.new.keep ≡ self.old.keep) }
+        ensures same { (self.new.checked ≡ self.old.checked)
+            × (self.new.limit ≡ self.old.limit) × (self.new.keep ≡ self.old.keep) }
         ensures sound { IsSound (net_does N.does) self.new.core }
     {
         self.core.take_reject()

@@ -1,11 +1,14 @@
 // What no clause says: that memory is there, and that a schedule does its work.
 mod core_rows;
+mod doubling;
 mod narrow;
 mod schedules;
 mod seen;
 mod sieve;
 mod stages;
 mod units;
+mod wrap_nets;
+mod wraps;
 
 use crate::NetCore;
 use ff_net::{Net, Version, check};
@@ -99,10 +102,9 @@ fn opened<N: Node>(
     input: &str,
 ) -> Result<NetCore<N>, Fail> {
     let checked = check(net, Version::Two).ok().ok_or("refused")?;
-    assert!(rt; !checked.has_wrap());
     assert!(rt; 1 <= cap && cap <= 4096);
     let input = records(alloc, input)?;
-    Ok(NetCore::new(alloc, checked, cap, true, input)?)
+    Ok(NetCore::new(alloc, checked, cap, 1, true, input)?)
 }
 
 fn leaf(shut: bool) -> Net<Gate> {

@@ -1,6 +1,5 @@
-// The units of a network without a wrap.
-ghost use Rattle.std.specs.Prelude.{◌≡◌, ◌++◌, [], ◌∷◌, true, false, All, IfOk, OnOk};
-ghost use Rattle.ff_net.specs.Forms.{has_wrap};
+// The units of a network.
+ghost use Rattle.std.specs.Prelude.{◌≡◌, ◌++◌, [], ◌∷◌, true, All, IfOk, OnOk};
 ghost use Rattle.ff_net.specs.Good.{Good, GoodParts};
 ghost use Rattle.ff_net.specs.RuleTests.{is_node};
 ghost use Rattle.ff_net.specs.Tree.{tree_of, trees_of};
@@ -10,6 +9,7 @@ ghost use Rattle.ff_steps.specs.PlanUnits.{opened_units, units_in, units_through
 use crate::NetUnit;
 use crate::copies::{add_farm, add_left_set, add_ofarm, add_right_set};
 use crate::middle::add_middle;
+use crate::wraps::add_wrap;
 use ff_net::laws::checked_networks_are_good;
 use ff_net::{Checked, Net};
 use ff_node::{Comb, Node};
@@ -17,49 +17,50 @@ use ff_rec::NoMemory;
 use ff_unit::Stage;
 use std::alloc::Global;
 
-/// The units of a network without a wrap, in the order of its plan, each before its first step.
+/// The units of a network, in the order of its plan, each before its first step. A wrap may have `limit` tasks.
 pub fn make_units<N: Node>(
     alloc: Global,
     checked: &Checked<N>,
+    limit: u64,
     keep: bool,
 ) -> Result<Vec<NetUnit<N>>, NoMemory>
-    requires { has_wrap (tree_of checked.now.net) ≡ false }
     ensures units { IfOk result (λ units. units.items
-        ≡ opened_units N.does keep (tree_of checked.now.net)) }
+        ≡ opened_units N.does limit keep (tree_of checked.now.net)) }
     ensures unrun { IfOk result (λ units. All (IsUnrun (net_does N.does)) units.items) }
 {
     checked_networks_are_good(checked);
     let mut units = Vec::new(alloc);
-    add_units(alloc, checked.net(), keep, &mut units)?;
+    add_units(alloc, checked.net(), limit, keep, &mut units)?;
     Ok(units)
 }
 
-/// Adds the units of a network to these. Those of a wrap aren't made here.
+/// Adds the units of a network to these.
 #[cycle(units)]
 #[tactic(auto, using(ff_net::proofs::NodeLists::node_lists))]
 pub(crate) fn add_units<N: Node>(
     alloc: Global,
     net: &Net<N>,
+    limit: u64,
     keep: bool,
     units: &mut Vec<NetUnit<N>>,
 ) -> Result<(), NoMemory>
     requires { Good N.does (tree_of net.now) }
     ensures { OnOk result (units.new.items
-        ≡ units.old.items ++ units_in N.does keep (tree_of net.now)) }
+        ≡ units.old.items ++ units_in N.does limit keep (tree_of net.now)) }
 {
     match net {
         Net::Leaf(_) | Net::Comb(_) => add_stage(alloc, net, keep, units),
-        Net::Pipe(parts) => add_parts(alloc, parts, keep, units),
+        Net::Pipe(parts) => add_parts(alloc, parts, limit, keep, units),
         Net::Farm {
             workers,
             sched,
             worker,
-        } => add_farm(alloc, *workers, *sched, worker, keep, units),
+        } => add_farm(alloc, *workers, *sched, worker, limit, keep, units),
         Net::OFarm {
             workers,
             sched,
             worker,
-        } => add_ofarm(alloc, *workers, *sched, worker, keep, units),
+        } => add_ofarm(alloc, *workers, *sched, worker, limit, keep, units),
         Net::A2a {
             left,
             left_node,
@@ -67,11 +68,15 @@ pub(crate) fn add_units<N: Node>(
             right,
             right_node,
         } => {
-            add_left_set(alloc, *left, left_node, keep, units)?;
+            add_left_set(alloc, *left, left_node, limit, keep, units)?;
             add_middle(*left, *route, *right, units)?;
-            add_right_set(alloc, *right, right_node, keep, units)
+            add_right_set(alloc, *right, right_node, limit, keep, units)
         }
-        Net::Wrap { .. } => Ok(()),
+        Net::Wrap {
+            workers,
+            worker,
+            test,
+        } => add_wrap(alloc, *workers, worker, *test, limit, keep, units),
     }
 }
 
@@ -81,15 +86,16 @@ pub(crate) fn add_units<N: Node>(
 fn add_parts<N: Node>(
     alloc: Global,
     parts: &[Net<N>],
+    limit: u64,
     keep: bool,
     units: &mut Vec<NetUnit<N>>,
 ) -> Result<(), NoMemory>
     requires { GoodParts N.does (trees_of parts.now) }
     ensures { OnOk result (units.new.items
-        ≡ units.old.items ++ units_through N.does keep (trees_of parts.now)) }
+        ≡ units.old.items ++ units_through N.does limit keep (trees_of parts.now)) }
 {
     for part in parts {
-        add_units(alloc, part, keep, units)?;
+        add_units(alloc, part, limit, keep, units)?;
     }
     Ok(())
 }

@@ -3,21 +3,21 @@ use Rattle.std.specs.Prelude.{◌≡◌, ◌<◌, ◌≤◌, ℕ, Bool, true, fa
 use Rattle.std.proofs.Common.{sym, ap, ◌∙◌, arith, get_or-take}
 use Rattle.std.proofs.lemmas.List.{length-take-le, take-replicate}
 use Rattle.std.proofs.Math.Seq.{take-set-lt}
-use Rattle.ff_unit.specs.Closing.{any_live, none_live}
+use Rattle.ff_unit.specs.Closing.{any_live}
 use Rattle.ff_unit.specs.FlagLaws.{any_live-at, any_live-closed}
 
 module _ (flags : List Bool) (count : ℕ) (few : count ≤ length flags) where
-  -- one of them is closed
-  pub take-close : (live : List Bool) (k : ℕ) → take count flags ≡ live → k < length live → take count (slice_set flags k false) ≡ slice_set live k false
-  take-close live k is below =
+  -- one of them is set
+  pub take-set : (b : Bool) (live : List Bool) (k : ℕ) → take count flags ≡ live → k < length live → take count (slice_set flags k b) ≡ slice_set live k b
+  take-set b live k is below =
       let within : k < count = omega (arith, below, ap length is, length-take-le count flags few) in
-      take-set-lt count flags k false within ∙ ap (λ l. slice_set l k false) is
+      take-set-lt count flags k b within ∙ ap (λ l. slice_set l k b) is
 
-  -- all of them are closed
-  pub take-closed : (live : List Bool) → take count flags ≡ live → count ≤ 65 → take count (replicate 65 false) ≡ none_live (length live)
-  take-closed live is most =
+  -- all of them are set
+  pub take-all : (b : Bool) (live : List Bool) → take count flags ≡ live → count ≤ 65 → take count (replicate 65 b) ≡ replicate (length live) b
+  take-all b live is most =
       let number : count ≡ length live = sym (length-take-le count flags few) ∙ ap length is in
-      take-replicate count 65 false most ∙ ap (λ n. replicate n false) number
+      take-replicate count 65 b most ∙ ap (λ n. replicate n b) number
 
   -- one of them is live
   pub take-some : (live : List Bool) (k : ℕ) → take count flags ≡ live → k < count → slice_index_or flags k false ≡ true → any_live live ≡ true

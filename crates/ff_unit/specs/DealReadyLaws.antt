@@ -15,12 +15,12 @@ use Rattle.ff_unit.specs.DealTellingLaws.{on-untold}
 use Rattle.ff_unit.specs.DealTiedLaws.{IsTelling, TiedLive, TiedAt, IsTied}
 
 -- what is held where each out is open
-AreOpenOuts-inner : (n : ℕ) (puts : List (List Message)) (held : List Pair) → length puts ≡ n → ((j : ℕ) → j < n → IsOpen (at puts j)) → AreInner n held → AreOpenOuts puts held
+pub AreOpenOuts-inner : (n : ℕ) (puts : List (List Message)) (held : List Pair) → length puts ≡ n → ((j : ℕ) → j < n → IsOpen (at puts j)) → AreInner n held → AreOpenOuts puts held
 AreOpenOuts-inner n puts [] number opens h = tt
 AreOpenOuts-inner n puts (pair ∷ held) number opens h = (omega (arith, number, h.0.0), opens pair.0 h.0.0, AreOpenOuts-inner n puts held number opens h.1)
 
 -- what is told on the outs from out `i` on
-AreOpenOuts-on_outs : (puts : List (List Message)) (i n : ℕ) (m : Message) → i + n ≤ length puts → ((j : ℕ) → i ≤ j → j < i + n → IsOpen (at puts j)) → AreOpenOuts puts (on_outs i n m)
+pub AreOpenOuts-on_outs : (puts : List (List Message)) (i n : ℕ) (m : Message) → i + n ≤ length puts → ((j : ℕ) → i ≤ j → j < i + n → IsOpen (at puts j)) → AreOpenOuts puts (on_outs i n m)
 AreOpenOuts-on_outs puts i zero m within opens = tt
 AreOpenOuts-on_outs puts i (suc n) m within opens = (
   omega (arith, within),

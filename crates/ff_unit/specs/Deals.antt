@@ -6,7 +6,7 @@ use Rattle.ff_rec.specs.Streams.{IsOpen, at}
 use Rattle.ff_rec.specs.declared.msg.Msg.TheVariants.{Item, Mark, Pick, Eos as EosMsg, Abort as AbortMsg}
 use Rattle.ff_node.specs.Fits.{FitsStrictDeal, FitsKeyDeal, FitsFreeDeal, FitsStrictODeal, FitsFreeODeal}
 use Rattle.ff_node.specs.Picks.{place_of}
-use Rattle.ff_node.specs.Runs.{Message, Act, Took, Gave, Refused, Idle, Told, Handed}
+use Rattle.ff_node.specs.Runs.{Message, Act, Took, Gave, Refused, Idle, Told, Handed, BeginsToFit}
 use Rattle.ff_port.specs.declared.answers.End.{End}
 use Rattle.ff_port.specs.declared.answers.End.TheVariants.{Eos, Abort, Memory}
 use Rattle.ff_unit.specs.Closing.{spoiled, decided, told_last}
@@ -173,5 +173,6 @@ deal_does = record {
   Ready = DealReady;
   Stalls = λ u before after. DealStalls u.free u.held u.live u.places before after;
   Fits = λ u. FitsDeal u.way u.places;
+  Begins = λ u gots puts. BeginsToFit (FitsDeal u.way u.places) gots puts;
   rejected = λ u gots. [];
 }

@@ -4,7 +4,7 @@ use Rattle.ff_rec.specs.Lines.{Rec}
 use Rattle.ff_rec.specs.Streams.{IsOpen, at}
 use Rattle.ff_rec.specs.declared.msg.Msg.TheVariants.{Item, Mark, Pick, Eos as EosMsg, Abort as AbortMsg}
 use Rattle.ff_node.specs.Fits.{FitsMerge}
-use Rattle.ff_node.specs.Runs.{Message, Act, Took, Gave, Refused, Idle, Told, Handed}
+use Rattle.ff_node.specs.Runs.{Message, Act, Took, Gave, Refused, Idle, Told, Handed, BeginsToFit}
 use Rattle.ff_port.specs.declared.answers.End.{End}
 use Rattle.ff_port.specs.declared.answers.End.TheVariants.{Eos, Abort, Memory}
 use Rattle.ff_unit.specs.Closing.{IsLive, any_live, all_live, none_live, spoiled, decided, told_last, AllDry}
@@ -93,5 +93,6 @@ merge_does = record {
   Ready = MergeReady;
   Stalls = λ u before after. MergeStalls u.held (any_live u.live) u.live before after;
   Fits = λ u. FitsMerge (length u.live);
+  Begins = λ u gots puts. BeginsToFit (FitsMerge (length u.live)) gots puts;
   rejected = λ u gots. [];
 }

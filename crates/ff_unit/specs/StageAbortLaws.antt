@@ -15,7 +15,7 @@ use Rattle.ff_unit.specs.declared.mode.Mode.TheVariants.{Cut}
 
 -- it was told to, or took one
 pub TookAbort-stage : {N : Type 0} (b : Behaviour N) → KeepsKind b → (u : StageState N) (gots puts : List (List Message))
-    → HasRun (StageStep b) (opening_stage b u) 1 1 u gots puts → u.fin ≡ Some Abort → (u.told ≡ true) ⊎ TookAbort gots
+    → HasRun (StageStep b []) (opening_stage b u) 1 1 u gots puts → u.fin ≡ Some Abort → (u.told ≡ true) ⊎ TookAbort gots
 TookAbort-stage b kind u gots puts run fin = of (HasRun-tied b kind u gots puts run)
   where
     among : (g : List Message) → gots ≡ g ∷ [] → (u.told ≡ true) ⊎ HasAbort g → (u.told ≡ true) ⊎ TookAbort gots
@@ -26,9 +26,9 @@ TookAbort-stage b kind u gots puts run fin = of (HasRun-tied b kind u gots puts 
     of r = among r.got r.gots_are (r.tied.cause (subst IsAbortEnd (sym fin) tt))
 
 -- it puts Abort on its out and ends
-pub Leads-aborted_stage : {N : Type 0} (b : Behaviour N) (u : StageState N) → u ≡ opening_stage b u
-    → Leads (StageStep b) u (told_acts 1) (aborted_stage u)
-Leads-aborted_stage b u fresh =
+pub Leads-aborted_stage : {N : Type 0} (b : Behaviour N) (behind : List Message) (u : StageState N) → u ≡ opening_stage b u
+    → Leads (StageStep b behind) u (told_acts 1) (aborted_stage u)
+Leads-aborted_stage b behind u fresh =
     let none : u.held ≡ [] = ap (λ s. s.held) fresh in
     let told = record u { held = AbortMsg ∷ []; mode = Cut; fin = Some Abort; told = true } in
     let given = record u { held = []; mode = Cut; fin = Some Abort; told = true } in (

@@ -57,7 +57,7 @@ module _ {N : Type 0} (b : Behaviour N) (kind : KeepsKind b) where
       (subst (λ h. TiedAt b (b.opening u.node) u.mode u.node u.fin g (p ++ h)) e t.tied)).outs
 
   -- its ports are as its code asks
-  pub StageReady-run : (u : StageState N) (gots puts : List (List Message)) → HasRun (StageStep b) (opening_stage b u) 1 1 u gots puts
+  pub StageReady-run : (u : StageState N) (gots puts : List (List Message)) → HasRun (StageStep b []) (opening_stage b u) 1 1 u gots puts
       → StageReady u gots puts
   StageReady-run u gots puts run = of (HasRun-tied b kind u gots puts run)
     where
@@ -71,7 +71,7 @@ module _ {N : Type 0} (b : Behaviour N) (kind : KeepsKind b) where
 
   -- however its in goes on, its out can go on so that it fits
   pub BeginsToFit-stage : (law : (o : N) → ClassLaw b o (b.class o)) (u : StageState N) (gots puts : List (List Message))
-      → HasRun (StageStep b) (opening_stage b u) 1 1 u gots puts → BeginsToFit (FitsStage b u.node) gots puts
+      → HasRun (StageStep b []) (opening_stage b u) 1 1 u gots puts → BeginsToFit (FitsStage b u.node) gots puts
   BeginsToFit-stage law u gots puts run =
       let r = HasRun-tied b kind u gots puts run in
       λ ins on. subst (HasOuts (FitsStage b u.node) ins) (sym r.puts_are) (outs r.got r.put r.tied ins (subst (λ l. AllGoOn l ins) r.gots_are on))

@@ -37,7 +37,7 @@ TiedAt-whole b o Cut n fin g t h e = absurd (subst IsCutEnd e h.ends)
 module _ {N : Type 0} (b : Behaviour N) (kind : KeepsKind b) where
   -- the whole in and the whole out
   pub FitsWhole-stage : (law : (o : N) → ClassLaw b o (b.class o)) (u : StageState N) (gots puts : List (List Message))
-      → HasRun (StageStep b) (opening_stage b u) 1 1 u gots puts → u.done ≡ true → u.fin ≡ Some Eos → FitsWhole (FitsStage b u.node) gots puts
+      → HasRun (StageStep b []) (opening_stage b u) 1 1 u gots puts → u.done ≡ true → u.fin ≡ Some Eos → FitsWhole (FitsStage b u.node) gots puts
   FitsWhole-stage law u gots puts run done fin =
       let r = HasRun-tied b kind u gots puts run in
       let o = b.opening u.node in

@@ -76,19 +76,19 @@ module _ {N : Type 0} (b : Behaviour N) (kind : KeepsKind b) (o : N) where
   HasAbort-last (EosMsg ∷ g) = HasAbort-last g
   HasAbort-last (AbortMsg ∷ g) = tt
 
-  fin-works : (u : StageState N) (x : Rec) → u.fin ≡ None → (ends : Bool) → b.ends u.node x ≡ ends → (works b u x).fin ≡ None
+  fin-works : (u : StageState N) (x : Rec) → u.fin ≡ None → (ends : Bool) → b.ends u.node x ≡ ends → (works b [] u x).fin ≡ None
   fin-works u x none true e = rw e refl
   fin-works u x none false e = rw e none
 
   -- a stage that goes on ends by Abort only where it takes one
-  StageTakes-cause : (mode : Mode) (u : StageState N) (m : Message) (v : StageState N) (g : List Message) → u.fin ≡ None → StageTakes b mode u m v
+  StageTakes-cause : (mode : Mode) (u : StageState N) (m : Message) (v : StageState N) (g : List Message) → u.fin ≡ None → StageTakes b [] mode u m v
       → IsAbortEnd v.fin → HasAbort (g ++ m ∷ [])
   StageTakes-cause mode u m v g none takes end = by mode m takes
     where
       no : (fin : Option End) → v.fin ≡ fin → (IsAbortEnd fin → ⊥) → (m : Message) → HasAbort (g ++ m ∷ [])
       no fin e other m = absurd (other (subst IsAbortEnd e end))
 
-      by : (mode : Mode) (m : Message) → StageTakes b mode u m v → HasAbort (g ++ m ∷ [])
+      by : (mode : Mode) (m : Message) → StageTakes b [] mode u m v → HasAbort (g ++ m ∷ [])
       by Live (Item x) (inl e) = no None (ap (λ w. w.fin) e ∙ fin-works u x none (b.ends u.node x) refl) (λ h. h) (Item x)
       by Live (Item x) (inr gives) = no None gives.fin_is (λ h. h) (Item x)
       by Live Mark e = no None (ap (λ w. w.fin) e ∙ none) (λ h. h) Mark
@@ -112,10 +112,10 @@ module _ {N : Type 0} (b : Behaviour N) (kind : KeepsKind b) (o : N) where
   short_fin-cause (Some fin) h = h
 
   -- one step
-  pub Tied-step : (u : StageState N) (g p : List Message) (act : Act) (v : StageState N) → StageStep b u act v → Tied b o u g p
+  pub Tied-step : (u : StageState N) (g p : List Message) (act : Act) (v : StageState N) → StageStep b [] u act v → Tied b o u g p
       → Tied b o v (takes_one act g) (gives_one act p)
   Tied-step u g p (Took k m) v s t = record {
-    done = λ done. absurd (undone u t.done s.2 (sym (StageTakes-kept b kind u.mode u m v s.3).done ∙ done));
+    done = λ done. absurd (undone u t.done s.2 (sym (StageTakes-kept b [] kind u.mode u m v s.3).done ∙ done));
     tied = StageTakes-tied b o g p u.mode u m v refl s.1 s.2 s.3 t.tied;
     cause = λ end. inr (StageTakes-cause u.mode u m v g s.2 s.3 end);
   }
@@ -140,15 +140,15 @@ module _ {N : Type 0} (b : Behaviour N) (kind : KeepsKind b) (o : N) where
   Tied-step u g p (Handed x) v s t = subst (λ w. Tied b o w g p) (sym s.1) (record { done = t.done; tied = t.tied; cause = t.cause })
 
   -- any number of steps from a stage that made none
-  pub Tied-leads : (keeps : Bool) (acts : List Act) (u : StageState N) → Leads (StageStep b) (started o keeps) acts u → Tied b o u (ins_of acts) (outs_of acts)
+  pub Tied-leads : (keeps : Bool) (acts : List Act) (u : StageState N) → Leads (StageStep b []) (started o keeps) acts u → Tied b o u (ins_of acts) (outs_of acts)
   Tied-leads keeps [] u e =
       subst (λ w. Tied b o w [] []) (sym e)
       (record { done = λ done. absurd (false≢true done); tied = record { undecided = refl; ins = tt; outs = tt; exact = λ rest. refl }; cause = λ end. absurd end })
   Tied-leads keeps (act ∷ acts) u l = Tied-step l.0 (ins_of acts) (outs_of acts) act u l.2 (Tied-leads keeps acts l.0 l.1)
 
 -- the ports are one in and one out
-module _ {N : Type 0} (b : Behaviour N) where
-  took-one : (u : StageState N) (act : Act) (v : StageState N) (g : List Message) → StageStep b u act v → took act (g ∷ []) ≡ takes_one act g ∷ []
+module _ {N : Type 0} (b : Behaviour N) (behind : List Message) where
+  took-one : (u : StageState N) (act : Act) (v : StageState N) (g : List Message) → StageStep b behind u act v → took act (g ∷ []) ≡ takes_one act g ∷ []
   took-one u (Took k m) v g s = ap (λ k. added (g ∷ []) k m) s.0
   took-one u (Gave k m) v g s = refl
   took-one u Refused v g s = refl
@@ -156,7 +156,7 @@ module _ {N : Type 0} (b : Behaviour N) where
   took-one u Told v g s = refl
   took-one u (Handed x) v g s = refl
 
-  gave-one : (u : StageState N) (act : Act) (v : StageState N) (p : List Message) → StageStep b u act v → gave act (p ∷ []) ≡ gives_one act p ∷ []
+  gave-one : (u : StageState N) (act : Act) (v : StageState N) (p : List Message) → StageStep b behind u act v → gave act (p ∷ []) ≡ gives_one act p ∷ []
   gave-one u (Took k m) v p s = refl
   gave-one u (Gave k m) v p s = ap (λ k. added (p ∷ []) k m) s.0
   gave-one u Refused v p s = refl
@@ -164,11 +164,11 @@ module _ {N : Type 0} (b : Behaviour N) where
   gave-one u Told v p s = refl
   gave-one u (Handed x) v p s = refl
 
-  pub took_on-one : (start : StageState N) (acts : List Act) (u : StageState N) → Leads (StageStep b) start acts u → took_on ([] ∷ []) acts ≡ ins_of acts ∷ []
+  pub took_on-one : (start : StageState N) (acts : List Act) (u : StageState N) → Leads (StageStep b behind) start acts u → took_on ([] ∷ []) acts ≡ ins_of acts ∷ []
   took_on-one start [] u l = refl
   took_on-one start (act ∷ acts) u l = ap (took act) (took_on-one start acts l.0 l.1) ∙ took-one l.0 act u (ins_of acts) l.2
 
-  pub gave_on-one : (start : StageState N) (acts : List Act) (u : StageState N) → Leads (StageStep b) start acts u → gave_on ([] ∷ []) acts ≡ outs_of acts ∷ []
+  pub gave_on-one : (start : StageState N) (acts : List Act) (u : StageState N) → Leads (StageStep b behind) start acts u → gave_on ([] ∷ []) acts ≡ outs_of acts ∷ []
   gave_on-one start [] u l = refl
   gave_on-one start (act ∷ acts) u l = ap (gave act) (gave_on-one start acts l.0 l.1) ∙ gave-one l.0 act u (outs_of acts) l.2
 
@@ -182,11 +182,11 @@ pub record IsTiedRun {N : Type 0} (b : Behaviour N) (u : StageState N) (gots put
 
 -- every run is such
 pub HasRun-tied : {N : Type 0} (b : Behaviour N) (kind : KeepsKind b) (u : StageState N) (gots puts : List (List Message))
-    → HasRun (StageStep b) (opening_stage b u) 1 1 u gots puts → IsTiedRun b u gots puts
+    → HasRun (StageStep b []) (opening_stage b u) 1 1 u gots puts → IsTiedRun b u gots puts
 HasRun-tied b kind u gots puts run = record {
   got = ins_of run.acts;
   put = outs_of run.acts;
-  gots_are = run.takes ∙ took_on-one b (opening_stage b u) run.acts u run.leads;
-  puts_are = run.gives ∙ gave_on-one b (opening_stage b u) run.acts u run.leads;
+  gots_are = run.takes ∙ took_on-one b [] (opening_stage b u) run.acts u run.leads;
+  puts_are = run.gives ∙ gave_on-one b [] (opening_stage b u) run.acts u run.leads;
   tied = Tied-leads b kind (b.opening u.node) u.keeps run.acts u run.leads;
 }

@@ -1,5 +1,5 @@
 -- A stage keeps the laws of a unit.
-use Rattle.std.proofs.Common.{refl}
+use Rattle.std.proofs.Common.{[], refl}
 use Rattle.ff_node.specs.Behaviour.{Behaviour, KeepsKind}
 use Rattle.ff_node.specs.Classes.{ClassLaw}
 use Rattle.ff_unit.specs.StageAbortLaws.{TookAbort-stage, Leads-aborted_stage}
@@ -12,9 +12,9 @@ use Rattle.ff_unit.specs.Units.{IsUnit}
 
 pub IsUnit-stage : {N : Type 0} (b : Behaviour N) → KeepsKind b → ((o : N) → ClassLaw b o (b.class o)) → IsUnit (stage_does b)
 IsUnit-stage b kind law = record {
-  opening_kept = opening_stage-step b kind;
-  taken_kept = taken-step b kind;
-  told_kept = told-step b kind;
+  opening_kept = opening_stage-step b [] kind;
+  taken_kept = taken-step b [] kind;
+  told_kept = told-step b [] kind;
   opened = λ u. (refl, refl, refl);
   ready = λ u gots puts ran. StageReady-run b kind u gots puts ran.1;
   ends = λ u gots puts ran done. ((StageReady-run b kind u gots puts ran.1).ended done).1;
@@ -22,5 +22,5 @@ IsUnit-stage b kind law = record {
   whole = λ u gots puts ran. FitsWhole-stage b kind law u gots puts ran.1;
   rejects_are = λ u gots puts ran. HasRejects-stage b kind u gots puts ran.1;
   causes = λ u gots puts ran. TookAbort-stage b kind u gots puts ran.1;
-  aborts_by = Leads-aborted_stage b;
+  aborts_by = Leads-aborted_stage b [];
 }

@@ -68,7 +68,7 @@ module _ {N : Type 0} (b : Behaviour N) (o : N) where
     refuses_more m r = record { all = r.all; counts = r.counts; exact = λ rest. ap (refusal b o) (append_assoc g (m ∷ []) rest) ∙ r.exact (m ∷ rest) }
 
     works_refuses : (x : Rec) (ends : Bool) → b.ends u.node x ≡ ends → u.mode ≡ Live
-        → RefusesLive b o u.node u.rejects u.keeps u.kept u.taken g → RefusesTo b o (works b u x) (g ++ Item x ∷ [])
+        → RefusesLive b o u.node u.rejects u.keeps u.kept u.taken g → RefusesTo b o (works b [] u x) (g ++ Item x ∷ [])
     works_refuses x true e live r =
         rw e (refuses_last (Item x) (b.rejects u.node x ++ b.last_rejects (b.next u.node x))
         (λ rest. ap (λ c. b.rejects u.node x ++ cond c (b.last_rejects (b.next u.node x)) (refusal b (b.next u.node x) rest)) e) r)
@@ -76,7 +76,7 @@ module _ {N : Type 0} (b : Behaviour N) (o : N) where
         rw (e, live) (refuses_on (b.next u.node x) (Item x) (b.rejects u.node x)
         (λ rest. ap (λ c. b.rejects u.node x ++ cond c (b.last_rejects (b.next u.node x)) (refusal b (b.next u.node x) rest)) e) r)
 
-    live_refuses : (m : Message) (v : StageState N) → u.mode ≡ Live → LiveTakes b u m v
+    live_refuses : (m : Message) (v : StageState N) → u.mode ≡ Live → LiveTakes b [] u m v
         → RefusesLive b o u.node u.rejects u.keeps u.kept u.taken g → RefusesTo b o v (g ++ m ∷ [])
     live_refuses (Item x) v live (inl e) r = subst (λ w. RefusesTo b o w (g ++ Item x ∷ [])) (sym e) (works_refuses x (b.ends u.node x) refl live r)
     live_refuses (Item x) v live (inr gives) r = cut_refuses v (g ++ Item x ∷ []) gives.mode
@@ -109,7 +109,7 @@ module _ {N : Type 0} (b : Behaviour N) (o : N) where
     cut_stays AbortMsg v cut e = ap (λ w. w.mode) e ∙ cut
 
     -- a message is taken, in any mode
-    pub takes_refuses : (mode : Mode) (m : Message) (v : StageState N) → u.mode ≡ mode → StageTakes b mode u m v
+    pub takes_refuses : (mode : Mode) (m : Message) (v : StageState N) → u.mode ≡ mode → StageTakes b [] mode u m v
         → RefusesAt b o mode u.node u.rejects u.keeps u.kept u.taken g → RefusesTo b o v (g ++ m ∷ [])
     takes_refuses Live m v is takes r = live_refuses m v is takes r
     takes_refuses Shut m v is takes r = shut_refuses m v is takes r

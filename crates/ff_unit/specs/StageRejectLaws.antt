@@ -29,7 +29,7 @@ module _ {N : Type 0} (b : Behaviour N) (o : N) where
   handed_refuses Cut n rejects keeps x kept taken g r = tt
 
   -- one step
-  step_refuses : (u : StageState N) (g : List Message) (act : Act) (v : StageState N) → StageStep b u act v
+  step_refuses : (u : StageState N) (g : List Message) (act : Act) (v : StageState N) → StageStep b [] u act v
       → RefusesTo b o u g → RefusesTo b o v (takes_one act g)
   step_refuses u g (Took k m) v s r = takes_refuses b o u g u.mode m v refl s.3 r
   step_refuses u g (Gave k m) v s r = subst (λ w. RefusesTo b o w g) (sym s.2) r
@@ -42,7 +42,7 @@ module _ {N : Type 0} (b : Behaviour N) (o : N) where
       (handed_refuses u.mode u.node u.rejects u.keeps x v.kept u.taken g (subst (λ l. RefusesAt b o u.mode u.node u.rejects u.keeps l u.taken g) s.0 r))
 
   -- any number of steps from a stage that made none
-  Leads-refuses : (keeps : Bool) (acts : List Act) (u : StageState N) → Leads (StageStep b) (started o keeps) acts u → RefusesTo b o u (ins_of acts)
+  Leads-refuses : (keeps : Bool) (acts : List Act) (u : StageState N) → Leads (StageStep b []) (started o keeps) acts u → RefusesTo b o u (ins_of acts)
   Leads-refuses keeps [] u e =
       subst (λ w. RefusesTo b o w []) (sym e) (record { all = []; counts = record { number = refl; held = sym (kept_of-nil keeps) }; exact = λ rest. refl })
   Leads-refuses keeps (act ∷ acts) u l = step_refuses l.0 (ins_of acts) act u l.2 (Leads-refuses keeps acts l.0 l.1)
@@ -61,13 +61,13 @@ module _ {N : Type 0} (b : Behaviour N) (o : N) where
 module _ {N : Type 0} (b : Behaviour N) (kind : KeepsKind b) where
   -- their number, and those it holds behind those that were taken out
   pub HasRejects-stage : (u : StageState N) (gots puts : List (List Message))
-      → HasRun (StageStep b) (opening_stage b u) 1 1 u gots puts → u.done ≡ true → u.fin ≡ Some Eos → HasRejects (stage_does b) u gots
+      → HasRun (StageStep b []) (opening_stage b u) 1 1 u gots puts → u.done ≡ true → u.fin ≡ Some Eos → HasRejects (stage_does b) u gots
   HasRejects-stage u gots puts run done fin =
       let o = b.opening u.node in
       let g = ins_of run.acts in
       let tied = Tied-leads b kind o u.keeps run.acts u run.leads in
       let a = RefusesAt-all b o u.mode u.node u.fin u.rejects u.keeps u.kept u.taken g (outs_of run.acts ++ u.held) tied.tied fin (Leads-refuses b o u.keeps run.acts u run.leads) in
-      subst (HasRejects (stage_does b) u) (sym (run.takes ∙ took_on-one b (opening_stage b u) run.acts u run.leads)) (record {
+      subst (HasRejects (stage_does b) u) (sym (run.takes ∙ took_on-one b [] (opening_stage b u) run.acts u run.leads)) (record {
         number_is = a.number ∙ count_more-zero (rejected_from b o (items g));
         kept_are = λ keeps. a.held ∙ ap (λ k. kept_of k (rejected_from b o (items g))) keeps;
         none = λ keeps. AreRefused-none u.rejects u.kept u.taken (rejected_from b o (items g))

@@ -1,4 +1,4 @@
--- How a stage steps.
+-- How a unit steps that runs a node between its in and its out: a stage, and what puts more behind the sends of each record.
 use Rattle.std.specs.Prelude.{◌≡◌, ◌⊎◌, true, if◌then◌else◌, List, [], ◌∷◌, ◌++◌, Option, None, Some, IsSome}
 use Rattle.ff_rec.specs.Lines.{Rec}
 use Rattle.ff_rec.specs.Streams.{IsOpenMsg, carried}
@@ -12,11 +12,16 @@ use Rattle.ff_unit.specs.Stage.{StageState}
 use Rattle.ff_unit.specs.declared.mode.Mode.{Mode}
 use Rattle.ff_unit.specs.declared.mode.Mode.TheVariants.{Live, Shut, Cut}
 
--- a live node goes on after a record: its sends are held
-abbrev pub goes_on : {N : Type 0} → Behaviour N → StageState N → Rec → StageState N
-goes_on b u x = record u {
+-- messages with more behind them
+abbrev pub followed : List Message → List Message → List Message
+followed [] ms = ms
+followed (m ∷ behind) ms = ms ++ m ∷ behind
+
+-- a live node goes on after a record: its sends are held, with `behind` behind them
+abbrev pub goes_on : {N : Type 0} → Behaviour N → List Message → StageState N → Rec → StageState N
+goes_on b behind u x = record u {
   node = b.next u.node x;
-  held = carried (b.sends u.node x);
+  held = followed behind (carried (b.sends u.node x));
   rejects = count_more u.rejects (b.rejects u.node x);
   kept = u.kept ++ kept_of u.keeps (b.rejects u.node x);
 }
@@ -33,9 +38,9 @@ closes b u n sends rejects fin = record u {
 }
 
 -- a live node takes a record
-abbrev pub works : {N : Type 0} → Behaviour N → StageState N → Rec → StageState N
-works b u x =
-    if b.ends u.node x then closes b u (b.next u.node x) (b.sends u.node x) (b.rejects u.node x) None else goes_on b u x
+abbrev pub works : {N : Type 0} → Behaviour N → List Message → StageState N → Rec → StageState N
+works b behind u x =
+    if b.ends u.node x then closes b u (b.next u.node x) (b.sends u.node x) (b.rejects u.node x) None else goes_on b behind u x
 
 -- a call of the node was refused memory: it is given up, what would be sent is dropped, and Abort is held
 pub record GivesUp {N : Type 0} (b : Behaviour N) (u : StageState N) (fin : Option End) (v : StageState N) : Type 0 where
@@ -58,12 +63,12 @@ abbrev pub drops : {N : Type 0} → StageState N → StageState N
 drops u = record u { held = AbortMsg ∷ []; mode = Cut; fin = short_fin u.fin }
 
 -- a stage whose node is live takes a message
-abbrev pub LiveTakes : {N : Type 0} → Behaviour N → StageState N → Message → StageState N → Type 0
-LiveTakes b u (Item x) v = (v ≡ works b u x) ⊎ GivesUp b u None v
-LiveTakes b u Mark v = v ≡ record u { held = Mark ∷ [] }
-LiveTakes b u (Pick w) v = v ≡ u
-LiveTakes b u EosMsg v = (v ≡ closes b u u.node [] [] (Some Eos)) ⊎ GivesUp b u (Some Memory) v
-LiveTakes b u AbortMsg v = v ≡ record u { held = AbortMsg ∷ []; mode = Cut; fin = Some Abort }
+abbrev pub LiveTakes : {N : Type 0} → Behaviour N → List Message → StageState N → Message → StageState N → Type 0
+LiveTakes b behind u (Item x) v = (v ≡ works b behind u x) ⊎ GivesUp b u None v
+LiveTakes b behind u Mark v = v ≡ record u { held = Mark ∷ [] }
+LiveTakes b behind u (Pick w) v = v ≡ u
+LiveTakes b behind u EosMsg v = (v ≡ closes b u u.node [] [] (Some Eos)) ⊎ GivesUp b u (Some Memory) v
+LiveTakes b behind u AbortMsg v = v ≡ record u { held = AbortMsg ∷ []; mode = Cut; fin = Some Abort }
 
 -- a stage whose node has ended drops what it takes, and ends with its in
 abbrev pub ShutTakes : {N : Type 0} → StageState N → Message → StageState N → Type 0
@@ -81,10 +86,10 @@ CutTakes u (Pick w) v = v ≡ u
 CutTakes u EosMsg v = v ≡ record u { fin = Some Memory }
 CutTakes u AbortMsg v = v ≡ record u { fin = Some Memory }
 
-abbrev pub StageTakes : {N : Type 0} → Behaviour N → Mode → StageState N → Message → StageState N → Type 0
-StageTakes b Live u m v = LiveTakes b u m v
-StageTakes b Shut u m v = ShutTakes u m v
-StageTakes b Cut u m v = CutTakes u m v
+abbrev pub StageTakes : {N : Type 0} → Behaviour N → List Message → Mode → StageState N → Message → StageState N → Type 0
+StageTakes b behind Live u m v = LiveTakes b behind u m v
+StageTakes b behind Shut u m v = ShutTakes u m v
+StageTakes b behind Cut u m v = CutTakes u m v
 
 -- some held message that isn't the last of a stream
 abbrev pub IsOpenFront : List Message → Type 0
@@ -93,12 +98,12 @@ IsOpenFront (m ∷ ms) = IsOpenMsg m
 
 -- one act of a stage: it puts the first message that it holds; where it holds none and its end isn't decided, it takes; a
 -- reject that it keeps may be taken out at any time
-abbrev pub StageStep : {N : Type 0} → Behaviour N → StageState N → Act → StageState N → Type 0
-StageStep b u (Took k m) v = (k ≡ 0) × (u.held ≡ []) × (u.fin ≡ None) × StageTakes b u.mode u m v
-StageStep b u (Gave k m) v = (k ≡ 0) × (u.held ≡ m ∷ v.held) × (v ≡ record u { held = v.held })
-StageStep b u Refused v = IsOpenFront u.held × (v ≡ drops u)
-StageStep b u Idle v = (v ≡ u) ⊎ ((u.held ≡ []) × IsSome u.fin × (v ≡ record u { done = true }))
-StageStep b u Told v =
+abbrev pub StageStep : {N : Type 0} → Behaviour N → List Message → StageState N → Act → StageState N → Type 0
+StageStep b behind u (Took k m) v = (k ≡ 0) × (u.held ≡ []) × (u.fin ≡ None) × StageTakes b behind u.mode u m v
+StageStep b behind u (Gave k m) v = (k ≡ 0) × (u.held ≡ m ∷ v.held) × (v ≡ record u { held = v.held })
+StageStep b behind u Refused v = IsOpenFront u.held × (v ≡ drops u)
+StageStep b behind u Idle v = (v ≡ u) ⊎ ((u.held ≡ []) × IsSome u.fin × (v ≡ record u { done = true }))
+StageStep b behind u Told v =
     (u.held ≡ []) × (u.mode ≡ Live) × (u.fin ≡ None)
     × (v ≡ record u { held = AbortMsg ∷ []; mode = Cut; fin = Some Abort; told = true })
-StageStep b u (Handed x) v = (u.kept ≡ x ∷ v.kept) × (v ≡ record u { kept = v.kept; taken = u.taken ++ x ∷ [] })
+StageStep b behind u (Handed x) v = (u.kept ≡ x ∷ v.kept) × (v ≡ record u { kept = v.kept; taken = u.taken ++ x ∷ [] })

@@ -56,7 +56,7 @@ module _ {N : Type 0} (b : Behaviour N) (o : N) (g p : List Message) where
 
   -- a live node works on a record, whether or not it ends
   works-tied : (u : StageState N) (x : Rec) (ends : Bool) → b.ends u.node x ≡ ends → u.mode ≡ Live → TiedLive b o u.node u.fin g p
-      → TiedTo b o (works b u x) (g ++ Item x ∷ []) p
+      → TiedTo b o (works b [] u x) (g ++ Item x ∷ []) p
   works-tied u x true e live t =
       rw e (closes-tied u.node u.fin None (Item x) (b.sends u.node x ++ b.last (b.next u.node x)) (IsOpen-append g (Item x ∷ []) t.ins (tt, tt))
       (λ rest. ap (λ c. carried (b.sends u.node x) ++ cond c (carried (b.last (b.next u.node x))) (answer b (b.next u.node x) rest)) e
@@ -85,7 +85,7 @@ module _ {N : Type 0} (b : Behaviour N) (o : N) (g p : List Message) where
     exact = λ rest. ap (answer b o) (append_assoc g (m ∷ []) rest) ∙ c.exact (m ∷ rest);
   }
 
-  live_takes : (u : StageState N) (m : Message) (v : StageState N) → u.mode ≡ Live → u.held ≡ [] → LiveTakes b u m v
+  live_takes : (u : StageState N) (m : Message) (v : StageState N) → u.mode ≡ Live → u.held ≡ [] → LiveTakes b [] u m v
       → TiedLive b o u.node u.fin g p → TiedTo b o v (g ++ m ∷ []) p
   live_takes u (Item x) v live none (inl e) t = subst (λ w. TiedTo b o w (g ++ Item x ∷ []) p) (sym e) (works-tied u x (b.ends u.node x) refl live t)
   live_takes u (Item x) v live none (inr gives) t = gives_up-tied u v None (Item x) tt gives t
@@ -137,7 +137,7 @@ module _ {N : Type 0} (b : Behaviour N) (o : N) (g p : List Message) where
       by AbortMsg e = ended AbortMsg e
 
   -- a message is taken, in any mode
-  pub StageTakes-tied : (mode : Mode) (u : StageState N) (m : Message) (v : StageState N) → u.mode ≡ mode → u.held ≡ [] → u.fin ≡ None → StageTakes b mode u m v
+  pub StageTakes-tied : (mode : Mode) (u : StageState N) (m : Message) (v : StageState N) → u.mode ≡ mode → u.held ≡ [] → u.fin ≡ None → StageTakes b [] mode u m v
       → TiedAt b o mode u.node u.fin g (p ++ u.held) → TiedTo b o v (g ++ m ∷ []) p
   StageTakes-tied Live u m v is none undecided takes t =
       live_takes u m v is none takes (subst (λ l. TiedLive b o u.node u.fin g l) (ap (λ h. p ++ h) none ∙ append-nil p) t)

@@ -1,8 +1,9 @@
 -- A stage as a unit.
-use Rattle.std.specs.Prelude.{◌≡◌, true, [], Some}
+use Rattle.std.specs.Prelude.{◌≡◌, true, List, [], Some}
 use Rattle.ff_rec.specs.Streams.{at, items}
 use Rattle.ff_node.specs.Behaviour.{Behaviour, node_rejected}
 use Rattle.ff_node.specs.Fits.{FitsStage}
+use Rattle.ff_node.specs.Runs.{Message, BeginsToFit}
 use Rattle.ff_port.specs.declared.answers.End.TheVariants.{Abort}
 use Rattle.ff_unit.specs.Stage.{StageState, opening_stage}
 use Rattle.ff_unit.specs.StagePorts.{StageReady, Stalls}
@@ -14,7 +15,7 @@ use Rattle.ff_unit.specs.declared.mode.Mode.TheVariants.{Cut}
 abbrev pub aborted_stage : {N : Type 0} → StageState N → StageState N
 aborted_stage u = record u { mode = Cut; fin = Some Abort; done = true; told = true }
 
--- what a stage of this node does
+-- what a stage of this node does: behind the sends of a record it holds nothing
 abbrev pub stage_does : {N : Type 0} → Behaviour N → Doing (StageState N)
 stage_does b = record {
   Made = λ u. Unit {0};
@@ -30,9 +31,14 @@ stage_does b = record {
   keeps = λ u. u.keeps;
   kept = λ u. u.kept;
   taken = λ u. u.taken;
-  Steps = StageStep b;
+  Steps = StageStep b [];
   Ready = StageReady;
   Stalls = λ u before after. Stalls u.held u.fin before after;
   Fits = λ u. FitsStage b u.node;
+  Begins = λ u gots puts. BeginsToFit (FitsStage b u.node) gots puts;
   rejected = λ u gots. node_rejected b u.node (items (at gots 0));
 }
+
+-- how a runner of this node steps that holds `behind` behind the sends of each record
+abbrev pub runner_does : {N : Type 0} → Behaviour N → List Message → Doing (StageState N)
+runner_does b behind = record (stage_does b) { Steps = StageStep b behind }

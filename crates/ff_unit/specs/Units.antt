@@ -2,7 +2,7 @@
 use Rattle.std.specs.Prelude.{◌≡◌, ◌⊎◌, ℕ, zero, suc, Bool, true, false, if◌then◌else◌, List, [], ◌∷◌, ◌++◌, length, Option, None, Some, IsSome}
 use Rattle.ff_rec.specs.Lines.{Rec}
 use Rattle.ff_rec.specs.declared.msg.Msg.TheVariants.{Item, Mark, Pick, Eos as EosMsg, Abort as AbortMsg}
-use Rattle.ff_node.specs.Runs.{Message, Act, Took, Gave, Refused, Idle, Told, Handed, Leads, HasRun, OneEvent, BeginsToFit, FitsWhole}
+use Rattle.ff_node.specs.Runs.{Message, Act, Took, Gave, Refused, Idle, Told, Handed, Leads, HasRun, OneEvent, FitsWhole}
 use Rattle.ff_node.specs.Sends.{counted}
 use Rattle.ff_port.specs.declared.answers.End.{End}
 use Rattle.ff_port.specs.declared.answers.End.TheVariants.{Eos, Abort}
@@ -47,8 +47,11 @@ pub record Doing (U : Type 0) : Type 1 where
   pub Ready : U → List (List Message) → List (List Message) → Type 0
   -- the port that was due gave nothing, by the ports before and after
   pub Stalls : U → Known → Known → Type 0
-  -- the whole lists that it fits, and what it rejects for whole ins
+  -- the whole lists that it fits
   pub Fits : U → List (List Message) → List (List Message) → Type 0
+  -- what it took and put at any moment, whatever it ended by
+  pub Begins : U → List (List Message) → List (List Message) → Type 0
+  -- what it rejects for whole ins
   pub rejected : U → List (List Message) → List Rec
 
 -- a run of a unit that was `o` before its first step
@@ -165,8 +168,8 @@ pub record IsUnit {U : Type 0} (d : Doing U) : Type 0 where
   pub ready : (u : U) (gots puts : List (List Message)) → Ran d u gots puts → d.Ready u gots puts
   -- one that has ended has decided how
   pub ends : (u : U) (gots puts : List (List Message)) → Ran d u gots puts → d.done u ≡ true → IsSome (d.fin u)
-  -- what its ports saw is the beginning of lists that it fits, and where it ended by Eos they are whole
-  pub begins : (u : U) (gots puts : List (List Message)) → Ran d u gots puts → BeginsToFit (d.Fits u) gots puts
+  -- its ports saw what they may at any moment, and where it ended by Eos, whole lists that it fits
+  pub begins : (u : U) (gots puts : List (List Message)) → Ran d u gots puts → d.Begins u gots puts
   pub whole : (u : U) (gots puts : List (List Message)) → Ran d u gots puts → d.done u ≡ true → d.fin u ≡ Some Eos
       → FitsWhole (d.Fits u) gots puts
   -- then its rejects are all that it rejects for what it took

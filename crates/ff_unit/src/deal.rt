@@ -9,7 +9,8 @@ mod takes;
 use crate::{Dealing, Unit};
 use ff_port::{End, Ports, Step};
 use ff_rec::Record;
-use held::{Held, HeldPut};
+pub use behind::Last;
+pub use held::{Held, HeldPut};
 use std::marker::Model;
 
 /// A unit with one in that gives each record to one of several outs.

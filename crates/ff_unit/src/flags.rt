@@ -1,5 +1,5 @@
 // Which ins still give.
-ghost use Rattle.std.specs.Prelude.{◌≡◌, ◌<◌, ◌≤◌, Bool, List, false, length, slice_index_or, slice_set, take};
+ghost use Rattle.std.specs.Prelude.{◌≡◌, ◌<◌, ◌≤◌, Bool, List, true, false, length, slice_index_or, slice_set, take};
 ghost use Rattle.ff_unit.specs.Closing.{any_live, all_live, none_live};
 
 use std::marker::Model;
@@ -56,6 +56,21 @@ impl Flags {
         ensures { result ≡ slice_index_or self.now k false }
     {
         k < self.count && self.flags[k]
+    }
+
+    /// In `k` gives again.
+    pub fn open(&mut self, k: usize)
+        requires { k < length self.old }
+        ensures { self.new ≡ slice_set self.old k true }
+    {
+        self.flags[k] = true;
+    }
+
+    /// Every in gives again.
+    pub fn open_all(&mut self)
+        ensures { self.new ≡ all_live (length self.old) }
+    {
+        self.flags = [true; 65];
     }
 
     /// In `k` gives no more.

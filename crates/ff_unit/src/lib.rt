@@ -10,18 +10,20 @@ mod flags;
 mod keys;
 mod merge;
 mod mode;
+mod runner;
 mod stage;
 mod takes;
 mod unit;
 
 pub use closing::{last_message, spoil};
-pub use deal::Deal;
+pub use deal::{Deal, Held, HeldPut, Last};
 pub use dealing::Dealing;
 pub use flags::Flags;
 pub use keys::key_place;
 pub use merge::Merge;
 pub use mode::Mode;
-pub use stage::{Stage, drop_sends, take_held};
+pub use runner::NodeRunner;
+pub use stage::Stage;
 pub use takes::take_any;
 pub use unit::Unit;
 

@@ -7,7 +7,7 @@ use ff_rec::Record;
 pub trait Unit: Drop {
     ghost use Rattle.std.specs.Prelude.{◌≡◌, ◌⊎◌, ◌<◌, ℕ, List, true, [], ◌∷◌, replicate, slice_index};
     ghost use Rattle.ff_rec.specs.declared.msg.Msg.TheVariants.{Abort as AbortMsg};
-    ghost use Rattle.ff_node.specs.Runs.{Message, BeginsToFit, FitsWhole};
+    ghost use Rattle.ff_node.specs.Runs.{Message, FitsWhole};
     ghost use Rattle.ff_unit.specs.Units.{Doing, IsUnit, Ran, One, WaitsOnly, EndedOnly};
     ghost use Rattle.ff_unit.specs.Units.{known, end_of, HandsReject, HasRejects, TookAbort, StaysAt};
 
@@ -60,8 +60,8 @@ pub trait Unit: Drop {
         ensures told { does.told self.new ≡ does.told self.old }
         ensures link { P.link ports.new ≡ P.link ports.old }
 
-        // What the ports saw is the beginning of lists that it fits, and where it ended by Eos they are whole.
-        ensures begins { BeginsToFit (does.Fits self.new) (P.gots ports.new) (P.puts ports.new) }
+        // The ports saw what they may at any moment, and where it ended by Eos, whole lists that it fits.
+        ensures begins { does.Begins self.new (P.gots ports.new) (P.puts ports.new) }
         ensures fits { result ≡ Step.Ended End.Eos
             → FitsWhole (does.Fits self.new) (P.gots ports.new) (P.puts ports.new) }
         ensures rejects { result ≡ Step.Ended End.Eos

@@ -26,11 +26,11 @@ fn put(q: &mut PlainQueue<Record>, m: Msg<Record>) -> Result<(), Fail>
     }
 }
 
-// Steps until the unit ends, at most a hundred times.
-fn run<U: Unit, P: Ports<Record>>(unit: &mut U, ports: &mut P) -> Option<End>
+// Steps until the unit ends.
+pub(super) fn run<U: Unit, P: Ports<Record>>(unit: &mut U, ports: &mut P) -> Option<End>
     requires { Ran U.does unit.old (P.gots ports.old) (P.puts ports.old) }
 {
-    for _ in 0..100 {
+    for _ in 0..10_000 {
         if let Step::Ended(end) = unit.step(ports) {
             return Some(end);
         }

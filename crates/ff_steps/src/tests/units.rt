@@ -1,15 +1,14 @@
-// How many units networks have: a stage for each leaf and each comb, and the deals and merges of the forms with copies.
+// How many units networks have: a stage for each leaf and each comb, and the deals, merges and masters of the forms with copies.
 use super::{Gate, leaf};
 use crate::make_units;
-use ff_net::{Net, Route, Sched, Version, check};
+use ff_net::{Net, Route, Sched, Test, Version, check};
+use ff_node::Cmp;
 use std::alloc::Global;
-use std::process::Abort;
 use std::test::Fail;
 
-fn count(rt: &impl Abort, alloc: Global, net: Net<Gate>) -> Result<usize, Fail> {
+fn count(alloc: Global, net: Net<Gate>) -> Result<usize, Fail> {
     let checked = check(net, Version::Two).ok().ok_or("refused")?;
-    assert!(rt; !checked.has_wrap());
-    Ok(make_units(alloc, &checked, true)?.len())
+    Ok(make_units(alloc, &checked, 1, true)?.len())
 }
 
 #[test]
@@ -18,7 +17,7 @@ fn a_unit_for_each_leaf_and_each_comb(rt: HostRuntime) -> Result<(), Fail> {
     let comb = Net::Comb(vec![in alloc; leaf(false), leaf(true)]?);
     let pipe = Net::Pipe(vec![in alloc; leaf(false)]?);
     let net = Net::Pipe(vec![in alloc; leaf(false), comb, pipe]?);
-    assert_eq!(rt; count(&rt, alloc, net)?, 3);
+    assert_eq!(rt; count(alloc, net)?, 3);
     Ok(())
 }
 
@@ -36,7 +35,7 @@ fn farms_in_a_farm(rt: HostRuntime) -> Result<(), Fail> {
         sched: Sched::Od,
         worker: Box::new(alloc, farm)?,
     };
-    assert_eq!(rt; count(&rt, alloc, net)?, 14);
+    assert_eq!(rt; count(alloc, net)?, 14);
     Ok(())
 }
 
@@ -51,6 +50,24 @@ fn an_all_to_all(rt: HostRuntime) -> Result<(), Fail> {
         right: 3,
         right_node: Box::new(alloc, leaf(true))?,
     };
-    assert_eq!(rt; count(&rt, alloc, net)?, 12);
+    assert_eq!(rt; count(alloc, net)?, 12);
+    Ok(())
+}
+
+// A master and three workers, each of which runs two nodes as one.
+#[test]
+fn a_wrap(rt: HostRuntime) -> Result<(), Fail> {
+    let alloc = rt.alloc();
+    let comb = Net::Comb(vec![in alloc; leaf(false), leaf(true)]?);
+    let net = Net::Wrap {
+        workers: 3,
+        worker: Box::new(alloc, comb)?,
+        test: Test {
+            field: 1,
+            cmp: Cmp::Eq,
+            value: 1,
+        },
+    };
+    assert_eq!(rt; count(alloc, net)?, 4);
     Ok(())
 }

@@ -1,5 +1,5 @@
 // What a deal holds behind the message that comes first.
-ghost use Rattle.std.specs.Prelude.{◌≡◌};
+ghost use Rattle.std.specs.Prelude.{◌≡◌, ◌↔◌, [], IsTrue};
 ghost use Rattle.std.specs.Option.{option_to_list};
 ghost use Rattle.ff_unit.specs.DealParts.{last_msg, TakesPair};
 ghost use Rattle.ff_unit.specs.Deals.{on_outs};
@@ -74,6 +74,13 @@ impl Behind {
             next: 0,
             outs,
         }
+    }
+
+    /// Whether there is none.
+    pub fn is_empty(&self) -> bool
+        ensures { IsTrue result ↔ self.now ≡ [] }
+    {
+        self.first.is_none() && self.outs <= self.next
     }
 
     /// The first message, which is taken out.

@@ -1,5 +1,5 @@
 // What a deal holds to be put.
-ghost use Rattle.std.specs.Prelude.{◌≡◌, [], ◌∷◌, ◌++◌, None};
+ghost use Rattle.std.specs.Prelude.{◌≡◌, ◌↔◌, [], ◌∷◌, ◌++◌, None, IsTrue};
 ghost use Rattle.std.specs.Option.{option_to_list};
 ghost use Rattle.ff_unit.specs.DealParts.{last_msg, TakesPair, PutsHeld};
 ghost use Rattle.ff_unit.specs.Deals.{AreOpenOuts, on_outs};
@@ -45,6 +45,13 @@ impl Held {
             first: None,
             behind: Behind::of(None),
         }
+    }
+
+    /// Whether nothing is held.
+    pub fn is_empty(&self) -> bool
+        ensures { IsTrue result ↔ self.now ≡ [] }
+    {
+        self.first.is_none() && self.behind.is_empty()
     }
 
     /// One message.

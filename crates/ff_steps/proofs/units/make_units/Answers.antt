@@ -12,11 +12,11 @@ pub returns-clause-units : goal.returns-clause-units
 returns-clause-units g c =
     let t = tree_of c.args.checked.now.net in
     let good = c.checked_networks_are_good.ensures.good in
-    let made : c.add_units.new.units.items ≡ units_in g.N.Node.does c.args.keep t = search rules in
-    made ∙ sym (opened_units-in g.N.Node.does c.args.keep t c.requires good)
+    let made : c.add_units.new.units.items ≡ units_in g.N.Node.does c.args.limit c.args.keep t = search rules in
+    made ∙ sym (opened_units-in g.N.Node.does c.args.limit c.args.keep t good)
 
 pub returns-clause-unrun : goal.returns-clause-unrun
 returns-clause-unrun g c =
     let good = c.checked_networks_are_good.ensures.good in
     subst (All (IsUnrun (net_does g.N.Node.does))) (sym (returns-clause-units g c))
-    (unrun-opened_units g.N.Node.does g.met.N.Node.keeps_kind c.args.keep (tree_of c.args.checked.now.net) c.requires good)
+    (unrun-opened_units g.N.Node.does g.met.N.Node.keeps_kind c.args.limit c.args.keep (tree_of c.args.checked.now.net) good)

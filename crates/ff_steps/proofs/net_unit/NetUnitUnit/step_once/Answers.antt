@@ -2,7 +2,7 @@
 use Rattle.std.proofs.Common.{rules, sym, ap, ◌∙◌, subst}
 use Rattle.ff_steps.specs.NetUnits.{NetState, net_does}
 use Rattle.ff_steps.specs.PartViews.{state_of}
-use Rattle.ff_steps.proofs.net_unit.NetUnitUnit.step_once.Goals.{in-Stage, in-Deal, in-ODeal, in-Merge, in-OMerge}
+use Rattle.ff_steps.proofs.net_unit.NetUnitUnit.step_once.Goals.{in-Stage, in-Deal, in-ODeal, in-Merge, in-OMerge, in-Master, in-Worker}
 use Rattle.ff_steps.proofs.net_unit.NetUnitUnit.step_once.Goals as goal
 
 pub step_once-requires : goal.step_once-requires
@@ -30,6 +30,16 @@ step_once-requires-in-OMerge g c =
     subst (λ (u : NetState g.row.N.Denot). (net_does g.N.Node.does).Ready u (g.P.Ports.gots c.args.ports.now) (g.P.Ports.puts c.args.ports.now))
     (sym c.self.view_is ∙ ap state_of c.in-OMerge.is) c.requires
 
+pub step_once-requires-in-Master : goal.step_once-requires-in-Master
+step_once-requires-in-Master g c =
+    subst (λ (u : NetState g.row.N.Denot). (net_does g.N.Node.does).Ready u (g.P.Ports.gots c.args.ports.now) (g.P.Ports.puts c.args.ports.now))
+    (sym c.self.view_is ∙ ap state_of c.in-Master.is) c.requires
+
+pub step_once-requires-in-Worker : goal.step_once-requires-in-Worker
+step_once-requires-in-Worker g c =
+    subst (λ (u : NetState g.row.N.Denot). (net_does g.N.Node.does).Ready u (g.P.Ports.gots c.args.ports.now) (g.P.Ports.puts c.args.ports.now))
+    (sym c.self.view_is ∙ ap state_of c.in-Worker.is) c.requires
+
 pub returns-clause-one : goal.returns-clause-one
 returns-clause-one g c = elim c.match-self.branch [
   | in-Stage w ↦ search rules
@@ -37,4 +47,6 @@ returns-clause-one g c = elim c.match-self.branch [
   | in-ODeal w ↦ search rules
   | in-Merge w ↦ search rules
   | in-OMerge w ↦ search rules
+  | in-Master w ↦ search rules
+  | in-Worker w ↦ search rules
 ]

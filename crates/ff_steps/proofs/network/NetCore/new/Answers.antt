@@ -17,7 +17,7 @@ queues-requires g c =
 pub start-core-requires-clause-few : goal.start-core-requires-clause-few
 start-core-requires-clause-few g c =
     let few : length c.in_ok-units.units.items ≤ 65536 =
-    few-opened_units g.N.Node.does c.args.keep (tree_of c.args.checked.net) c.requires.free c.args.checked.version c.checked_networks_are_good.ensures.limits.units
+    few-opened_units g.N.Node.does c.args.limit c.args.keep (tree_of c.args.checked.net) c.args.checked.version c.checked_networks_are_good.ensures.limits.units
     c.in_ok-units.units.items c.in_ok-units.ensures.units in
     omega (arith, few, c.in_ok-units.units.ok)
 
@@ -28,9 +28,9 @@ start-core-requires-clause-sound g c =
     let rows = c.in_ok-rows.ensures ∙ ap (map port_row) (c.units.ensures ∙ ap (λ (p : Plan). p.units) c.in_ok-plan.ensures) in
     let queues = c.in_ok-edges.ensures ∙ ap edge_queues (c.edges.ensures ∙ ap (λ (p : Plan). p.edges) c.in_ok-plan.ensures) in
     subst (IsSound (net_does b))
-    (sym (opened_core-net b c.args.keep t c.requires.free c.args.cap c.in_ok-units.units.items c.in_ok-rows.rows.items c.in_ok-edges.edges.items c.args.input
+    (sym (opened_core-net b c.args.limit c.args.keep t c.args.cap c.in_ok-units.units.items c.in_ok-rows.rows.items c.in_ok-edges.edges.items c.args.input
     c.in_ok-units.ensures.units rows queues))
-    (IsSound-net b c.args.keep t c.requires.free g.met.N.Node.keeps_kind c.checked_networks_are_good.ensures.good c.each_edge_has_two_ends.ensures c.args.cap c.args.input)
+    (IsSound-net b c.args.limit c.args.keep t g.met.N.Node.keeps_kind c.checked_networks_are_good.ensures.good c.each_edge_has_two_ends.ensures c.args.cap c.args.input)
 
 pub invariant_of-result : goal.invariant_of-result
 invariant_of-result g c =
@@ -38,10 +38,10 @@ invariant_of-result g c =
     let t = tree_of c.args.checked.net in
     let rows = c.in_ok-rows.ensures ∙ ap (map port_row) (c.units.ensures ∙ ap (λ (p : Plan). p.units) c.in_ok-plan.ensures) in
     let queues = c.in_ok-edges.ensures ∙ ap edge_queues (c.edges.ensures ∙ ap (λ (p : Plan). p.edges) c.in_ok-plan.ensures) in
-    let opened = opened_core-net b c.args.keep t c.requires.free c.args.cap c.in_ok-units.units.items c.in_ok-rows.rows.items c.in_ok-edges.edges.items c.args.input
+    let opened = opened_core-net b c.args.limit c.args.keep t c.args.cap c.in_ok-units.units.items c.in_ok-rows.rows.items c.in_ok-edges.edges.items c.args.input
     c.in_ok-units.ensures.units rows queues in record {
-      made = subst (IsNetCore b c.args.keep t) (sym (c.start-core.ensures ∙ opened))
-          (IsNetCore-net b c.args.keep t c.requires.free g.met.N.Node.keeps_kind c.checked_networks_are_good.ensures.good c.each_edge_has_two_ends.ensures c.args.cap c.args.input);
+      made = subst (IsNetCore b c.args.limit c.args.keep t) (sym (c.start-core.ensures ∙ opened))
+          (IsNetCore-net b c.args.limit c.args.keep t g.met.N.Node.keeps_kind c.checked_networks_are_good.ensures.good c.each_edge_has_two_ends.ensures c.args.cap c.args.input);
     }
 
 pub returns-clause-opened : goal.returns-clause-opened
@@ -51,14 +51,14 @@ returns-clause-opened g c =
     let rows = c.in_ok-rows.ensures ∙ ap (map port_row) (c.units.ensures ∙ ap (λ (p : Plan). p.units) c.in_ok-plan.ensures) in
     let queues = c.in_ok-edges.ensures ∙ ap edge_queues (c.edges.ensures ∙ ap (λ (p : Plan). p.edges) c.in_ok-plan.ensures) in
     c.start-core.ensures
-    ∙ opened_core-net b c.args.keep t c.requires.free c.args.cap c.in_ok-units.units.items c.in_ok-rows.rows.items c.in_ok-edges.edges.items c.args.input
+    ∙ opened_core-net b c.args.limit c.args.keep t c.args.cap c.in_ok-units.units.items c.in_ok-rows.rows.items c.in_ok-edges.edges.items c.args.input
     c.in_ok-units.ensures.units rows queues
 
 pub returns-clause-good : goal.returns-clause-good
 returns-clause-good g c =
     let b = g.N.Node.does in
     let t = tree_of c.args.checked.net in
-    subst (IsGood b t) (sym (returns-clause-opened g c))
-    (IsGood-core b g.met.N.Node.keeps_kind (IsUnit-nodes b g.met.N.Node.keeps_kind g.met.N.Node.class_law) c.args.keep t c.checked_networks_are_good.ensures.good c.cut_runs.ensures (opened_net b c.args.keep t c.args.cap c.args.input)
-    (IsNetCore-net b c.args.keep t c.requires.free g.met.N.Node.keeps_kind c.checked_networks_are_good.ensures.good c.each_edge_has_two_ends.ensures c.args.cap c.args.input)
-    (IsSound-net b c.args.keep t c.requires.free g.met.N.Node.keeps_kind c.checked_networks_are_good.ensures.good c.each_edge_has_two_ends.ensures c.args.cap c.args.input))
+    subst (IsGood b c.args.limit t) (sym (returns-clause-opened g c))
+    (IsGood-core b g.met.N.Node.keeps_kind (IsUnit-nodes b g.met.N.Node.keeps_kind g.met.N.Node.class_law) c.args.limit c.args.keep t c.checked_networks_are_good.ensures.good c.cut_runs.ensures (opened_net b c.args.limit c.args.keep t c.args.cap c.args.input)
+    (IsNetCore-net b c.args.limit c.args.keep t g.met.N.Node.keeps_kind c.checked_networks_are_good.ensures.good c.each_edge_has_two_ends.ensures c.args.cap c.args.input)
+    (IsSound-net b c.args.limit c.args.keep t g.met.N.Node.keeps_kind c.checked_networks_are_good.ensures.good c.each_edge_has_two_ends.ensures c.args.cap c.args.input))
