@@ -19,6 +19,9 @@ use ff_stream::RunFault;
 use std::alloc::Global;
 use std::sync::Wait;
 
+// The network has no feedback, and so no tasks.
+const NO_TASKS: u64 = 0;
+
 /// Runs `pipe(farm W rr (mul 2 3), a2a W (id) by 1 W (totalby 1 2))` by threads over the first `n` records, and tells what
 /// it sends. The summary doesn't depend on the number of workers. Each ring between two threads holds about `cap` messages.
 pub fn soak<R: Wait + Clone + Drop + Send + 'static, S: Spawner<NetJob<NetUnit<Op>, R>>>(
@@ -50,6 +53,7 @@ pub fn soak<R: Wait + Clone + Drop + Send + 'static, S: Spawner<NetJob<NetUnit<O
         alloc,
         &checked,
         cap,
+        NO_TASKS,
         false,
         &mut source,
         &mut sink,

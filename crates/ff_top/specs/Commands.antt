@@ -36,9 +36,9 @@ given_to _ = None
 abbrev pub RunDone : ℕ → Bool → Option (List ℕ)
     → Tree OpState → Outside → Outside → Result ℕ Fault → Type 0
 RunDone tasks one rejects t before now (Ok n) =
-    Ran (run_job t tasks rejects) (by_threads one t) rejects before now (Ok n)
+    Ran (run_job t tasks rejects) (by_threads one) rejects before now (Ok n)
 RunDone tasks one rejects t before now (Err (fault.Run cause)) =
-    Ran (run_job t tasks rejects) (by_threads one t) rejects before now (Err cause)
+    Ran (run_job t tasks rejects) (by_threads one) rejects before now (Err cause)
 RunDone tasks one rejects t before now (Err _) = ⊥
 
 -- `check` and `plan` answer as the print of the network in this form ends

@@ -1,10 +1,9 @@
 -- What the command `run` does with a network, at each of its answers.
-use Rattle.std.specs.Prelude.{◌≡◌, ℕ, ◌+◌, Bool, true, not, ◌&&◌, is_some, List, length, Option, None, Some, Result, Ok, Err}
+use Rattle.std.specs.Prelude.{◌≡◌, ℕ, ◌+◌, Bool, true, not, is_some, List, length, Option, None, Some, Result, Ok, Err}
 use Rattle.ff_rec.specs.Counts.{more}
 use Rattle.ff_rec.specs.Lines.{Rec, text}
 use Rattle.ff_io.specs.Files.{Holdings, HoldsBytes, KeepsAll, KeepsOthers}
 use Rattle.ff_net.specs.Counts.{units}
-use Rattle.ff_net.specs.Forms.{has_wrap}
 use Rattle.ff_net.specs.Tree.{Tree}
 use Rattle.ff_ops.specs.Operation.{OpState, op_node}
 use Rattle.ff_spawn.specs.Counts.{RoseBy}
@@ -35,9 +34,9 @@ abbrev pub Stored : Option (List ℕ) → List Rec → Option Holdings → Optio
 Stored None kept told now = KeepsAll told now
 Stored (Some name) kept told now = HoldsBytes now name (text kept) × KeepsOthers told now name
 
--- a network is run by threads unless the words ask for one thread, or feedback stands in it
-abbrev pub by_threads : Bool → Tree OpState → Bool
-by_threads one t = not one && not (has_wrap t)
+-- a network is run by threads unless the words ask for one thread
+abbrev pub by_threads : Bool → Bool
+by_threads one = not one
 
 -- for each unit a thread was started, and the threads handled each record and an end for each unit
 pub record RanByThreads (j : Job OpState) (xs : List Rec) (before now : Outside) : Type 0 where

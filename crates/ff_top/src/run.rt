@@ -10,7 +10,7 @@ ghost use Rattle.ff_top.specs.Texts.{version};
 use crate::devices::{Devices, Seen};
 use crate::rejects::store_rejects;
 use crate::run_cause::RunCause;
-use ff_engine::{NetFault, NetJob, NetUnit, run_net, runs};
+use ff_engine::{NetFault, NetJob, NetUnit, run_net};
 use ff_io::{Files, Sink, Source};
 use ff_net::Checked;
 use ff_ops::Op;
@@ -51,7 +51,7 @@ pub fn run<
     requires { checked.now.version ≡ version }
     ensures ran { let seen = ⟦<Devices<F, I, O, E, S> as Seen>⟧.outside in
         let job = run_job (tree_of checked.now.net) order.tasks order.rejects in
-        Ran job (by_threads order.one (tree_of checked.now.net)) order.rejects
+        Ran job (by_threads order.one) order.rejects
         (seen devices.old) (seen devices.new) result }
     ensures counts { let seen = ⟦<Devices<F, I, O, E, S> as Seen>⟧.outside in
         RunCounts (seen devices.old) (seen devices.new) result }
@@ -61,7 +61,7 @@ pub fn run<
     finish(alloc, order, &mut devices.files, answer)
 }
 
-// Runs a network: by threads, where each of its units can have one, and else on the calling thread.
+// Runs a network: by threads, or on the calling thread where that is asked for.
 fn answer<
     F: Files,
     I: Source,
@@ -79,7 +79,7 @@ fn answer<
     requires { checked.now.version ≡ version }
     ensures ran { let seen = ⟦<Devices<F, I, O, E, S> as Seen>⟧.outside in
         let job = run_job (tree_of checked.now.net) order.now.tasks order.now.rejects in
-        Answered job (by_threads order.now.one (tree_of checked.now.net))
+        Answered job (by_threads order.now.one)
         (seen devices.old) (seen devices.new) result }
     ensures input_faults { CountsNetInput (I.faults devices.old.input) (I.faults devices.new.input) result }
     ensures output_faults { O.faults devices.new.out ≡ net_output_count (O.faults devices.old.out) result }
@@ -94,13 +94,22 @@ fn answer<
         spawner,
         ..
     } = devices;
-    if order.one || !runs(checked) {
-        Ok(run_single(alloc, checked, order.tasks, keep, input, out)?)
-    } else {
-        // The words allow no other size. The clamp tells the prover so.
-        let cap = order.cap.clamp(1, 4096);
-        run_net(rt, alloc, checked, cap, keep, input, out, spawner)
+    if order.one {
+        return Ok(run_single(alloc, checked, order.tasks, keep, input, out)?);
     }
+    // The words allow no other size. The clamp tells the prover so.
+    let cap = order.cap.clamp(1, 4096);
+    run_net(
+        rt,
+        alloc,
+        checked,
+        cap,
+        order.tasks,
+        keep,
+        input,
+        out,
+        spawner,
+    )
 }
 
 // Stores the rejected records of a run that came to an end, and tells how it ended.

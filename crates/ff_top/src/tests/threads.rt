@@ -31,6 +31,7 @@ run 'pipe(farm 3 od (farm 2 rr (add 1 1)), tally)' | \[300 1\nx\n] | 0 | 300\n |
 run 'pipe(ofarm 3 od (add 1 1), take 2, ofarm 2 rr (dup 2))' | 1\n2\n\[300 3\nx\n] | 0 | 2\n2\n3\n3\n | ffrun: 300 rejected\n
 run 'pipe(ofarm 64 rr (words 1), number, keep 1, total 1)' | \[200 a b\n\nc\n] | 0 | 180300\n |
 run 'pipe(a2a 3 (words 1) by 1 5 (tallyby 1), total 2)' | \[200 a b\nc\n] | 0 | 600\n |
+run --tasks 600 'pipe(take 200, wrap 3 (halve 1) if 1 > 1, farm 2 rr (add 1 1), total 1)' | \[300 4\n]x\n | 0 | 1600\n |
 run 'pipe(a2a 2 (id) od 3 (add 1 1), a2a 3 (id) rr 1 (neg 1), total 1)' | \[300 1\nx\n] | 0 | -600\n | ffrun: 300 rejected\n
 "#;
 
@@ -46,11 +47,16 @@ run 'pipe(id, farm 2 rr (id))' | x\n | 5 |  | ffrun: a thread was refused\n | as
 run 'pipe(ofarm 2 od (id), id)' | x\n | 5 |  | ffrun: a thread was refused\n | as before\n
 "#;
 
+// Calls of four units, of which one isn't started. Too many tasks would come only later.
+const REFUSED_WRAP: &str = r#"
+run --tasks 1 'pipe(wrap 2 (halve 1) if 1 > 1, id)' | 9\n | 5 |  | ffrun: a thread was refused\n | as before\n
+"#;
+
 // Calls that start no thread.
 const ON_ONE_THREAD: &str = r#"
 run --one 'pipe(add 1 1, id)' | 1\n | 0 | 2\n |
 run --one 'farm 2 rr (add 1 1)' | 1\n2\n | 0 | 2\n3\n |
-run 'pipe(wrap 1 (id) if 1 > 1, id)' | 1\n | 0 | 1\n |
+run --one 'pipe(wrap 1 (id) if 1 > 1, id)' | 1\n | 0 | 1\n |
 check 'pipe(id, id)' |  | 0 | pipe(id, id)\n |
 "#;
 
@@ -60,6 +66,7 @@ fn rings_of_each_size(rt: HostRuntime) -> Result<(), Fail> {
         check_lines(&rt, rt.alloc(), LINES, verb, SOUND)?;
         check_lines(&rt, rt.alloc(), networks::ORDERED, verb, SOUND)?;
         check_lines(&rt, rt.alloc(), networks::ANY_ORDER, verb, ANY_ORDER)?;
+        check_lines(&rt, rt.alloc(), networks::BEYOND, verb, SOUND)?;
     }
     Ok(())
 }
@@ -84,7 +91,7 @@ fn check_lines<R: Host>(
 // The next read gives the whole input.
 #[test]
 fn each_start_is_refused(rt: HostRuntime) -> Result<(), Fail> {
-    for (table, units) in [(REFUSED, 3), (REFUSED_FARM, 5)] {
+    for (table, units) in [(REFUSED, 3), (REFUSED_FARM, 5), (REFUSED_WRAP, 4)] {
         for refuse in 1..=units {
             let by = Setting {
                 file: b"as before\n",

@@ -13,7 +13,7 @@ returns-in-Ok-run-clause-handled g c =
     inr (record {
       net = t;
       spelled = c.in-Ok.ensures.ok;
-      done = Ran-early (run_job t c.args.order.tasks c.args.order.rejects) (by_threads c.args.order.one t) c.args.order.rejects _ _ (g.F.Files.told mid) (g.F.Files.faults mid) c.in-Ok.ensures.keeps
+      done = Ran-early (run_job t c.args.order.tasks c.args.order.rejects) (by_threads c.args.order.one) c.args.order.rejects _ _ (g.F.Files.told mid) (g.F.Files.faults mid) c.in-Ok.ensures.keeps
           (Ok c.in-Ok-run.rejected) c.in-Ok-run.ensures.ran;
     })
 
@@ -24,6 +24,6 @@ returns-in-Ok-clause-handled g c =
     inr (record {
       net = t;
       spelled = c.in-Ok.ensures.ok;
-      done = Ran-early (run_job t c.args.order.tasks c.args.order.rejects) (by_threads c.args.order.one t) c.args.order.rejects _ _ (g.F.Files.told mid) (g.F.Files.faults mid) c.in-Ok.ensures.keeps
+      done = Ran-early (run_job t c.args.order.tasks c.args.order.rejects) (by_threads c.args.order.one) c.args.order.rejects _ _ (g.F.Files.told mid) (g.F.Files.faults mid) c.in-Ok.ensures.keeps
           (Err c.in-Err-run.cause) c.in-Err-run.ensures.ran;
     })

@@ -15,6 +15,6 @@ returns-else-not-runs-clause-ran g c =
     let v = c.args.checked.now.version in
     let keep = c.is_some-keep.result in
     let tasks = c.args.order.now.tasks in
-    let threads = by_threads c.args.order.now.one t in
+    let threads = by_threads c.args.order.now.one in
     Answered-job t v keep tasks c.args.order.now.rejects threads before now r.result c.requires c.is_some-keep.ensures
     (Answered-threads t v keep tasks threads before now r.result r.ensures.run r.ensures.work r.ensures.starts)

@@ -19,7 +19,7 @@ returns-clause-ran g c =
     let t = tree_of c.args.checked.now.net in
     let tasks = c.args.order.tasks in
     let rejects = c.args.order.rejects in
-    let threads = by_threads c.args.order.one t in
+    let threads = by_threads c.args.order.one in
     Ran-finished t tasks threads rejects before now a.result c.finish.result
     (Answered-files (run_job t tasks rejects) threads before now (told b.files) (g.F.Files.faults b.files) a.result a.ensures.ran) a.ensures.input_faults
     (subst (λ files. Finished tasks rejects a.result (told files) (told c.finish.new.files) c.finish.result) a.ensures.files c.finish.ensures.ends)
