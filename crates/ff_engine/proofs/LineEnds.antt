@@ -1,6 +1,7 @@
 -- How a line of threads takes records, and how it ends, in the words of a run.
 use Rattle.std.proofs.Common.{◌≡◌, ℕ, Bool, true, false, List, [], ◌∷◌, ◌++◌, Some, refl, sym, ap, ap₂, ◌∙◌, inl, inr, subst, append_assoc, append-nil}
 use Rattle.std.proofs.KnownBytes.{Appends-nil, Appends-trans}
+use Rattle.std.proofs.lemmas.Bool.{both_ways}
 use Rattle.std.proofs.lemmas.Grind.{flat_map-append}
 use Rattle.std.proofs.lemmas.List.{map-append}
 use Rattle.std.specs.Io.KnownBytes.{Appends, Keeps}
@@ -17,7 +18,7 @@ use Rattle.ff_net.specs.Forms.{has_wrap}
 use Rattle.ff_net.specs.Meaning.{Fine}
 use Rattle.ff_plan.proofs.MeanPlain.{no_wrap_fine}
 use Rattle.ff_port.specs.declared.answers.End.{End}
-use Rattle.ff_port.specs.declared.answers.End.TheVariants.{Eos as EndEos}
+use Rattle.ff_port.specs.declared.answers.End.TheVariants.{Eos as EndEos, Abort as EndAbort, Memory as EndMemory}
 use Rattle.ff_ring.specs.Bundles.{ahead_of}
 use Rattle.ff_steps.specs.NetUnits.{net_does}
 use Rattle.ff_stream.specs.Endings.{halted, output_count}
@@ -181,6 +182,13 @@ Keeps-none None t' written appended none = tt
 Keeps-none (Some xs) None written appended none = absurd appended
 Keeps-none (Some xs) (Some ys) written appended none = appended ∙ ap (λ l. xs ++ l) none ∙ append-nil xs
 
+-- an end by Eos
+by-eos : (end : Option End) → ends_by_eos end ≡ true → end ≡ Some EndEos
+by-eos None is = absurd (both_ways false refl is)
+by-eos (Some EndEos) is = refl
+by-eos (Some EndAbort) is = absurd (both_ways false refl is)
+by-eos (Some EndMemory) is = absurd (both_ways false refl is)
+
 -- a report is no fault
 ok_err : {report : Report} {fault : RunFault} → Ok report ≡ Err fault → ⊥
 ok_err both = cc
@@ -281,14 +289,14 @@ module _ {N : Type 0} (b : Behaviour N) (j : Job N) (c c' : CallerState)
       → (t'' : Option (List ℕ)) → Writes c'.text [] t' t'' → Ends j xs front t t'' (Ok report)
   Ends-reported (Err halt) end over report concluded eos put moved t'' wrote = absurd (ok_err concluded)
   Ends-reported (Ok a) end over report concluded eos put moved t'' wrote =
-      Ends-ended put concluded.out.units_ended report (eos concluded.out.stream) moved concluded.rejected concluded.kept t'' wrote
+      Ends-ended put concluded.out.units_ended report (eos (by-eos end concluded.out.stream)) moved concluded.rejected concluded.kept t'' wrote
 
   pub Ends-cut : {A : Type 0} (shown : Result A Halt) (end : Option End) (over : Bool) (report : Report) → Concludes (net_does b) shown end over us (Ok report)
       → (end ≡ Some EndEos → EndsWithEos c'.got) → OnOk shown (c'.put ≡ c.put ++ Eos ∷ []) → OnOk shown (Moves c c' t t')
       → (t'' : Option (List ℕ)) → WritesSome c'.text t' t'' → Ends j xs front t t'' (Err WriteFault)
   Ends-cut (Err halt) end over report concluded eos put moved t'' wrote = absurd (ok_err concluded)
   Ends-cut (Ok a) end over report concluded eos put moved t'' wrote =
-      Ends-unwritten put concluded.out.units_ended report (eos concluded.out.stream) moved concluded.rejected concluded.kept t'' wrote
+      Ends-unwritten put concluded.out.units_ended report (eos (by-eos end concluded.out.stream)) moved concluded.rejected concluded.kept t'' wrote
 
   pub WorkedThrough-concluded : {A : Type 0} (shown : Result A Halt) (end : Option End) (over : Bool) (answer : Result Report RunFault)
       → Concludes (net_does b) shown end over us answer → OnOk shown (c'.put ≡ c.put ++ Eos ∷ []) → OnOk answer (WorkedThrough j xs worked worked')

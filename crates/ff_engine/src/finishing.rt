@@ -16,7 +16,7 @@ ghost use Rattle.ff_engine.specs.Seen.{caller_of};
 use crate::NetJob;
 use crate::caller::Caller;
 use crate::line::Line;
-use crate::report::{all_ended_by_eos, report_of};
+use crate::report::{all_ended_by_eos, ends_by_eos, report_of};
 use ff_io::Sink;
 use ff_node::Node;
 use ff_port::End;
@@ -89,16 +89,19 @@ fn conclude<U: Unit>(
 ) -> Result<Report, RunFault>
     ensures { Concludes U.does shown end over units.old.items result }
 {
-    match (shown, end) {
-        (Err(halt), _) => Err(halt.into()),
-        (Ok(()), Some(End::Eos)) if all_ended_by_eos(units) => {
-            if over {
-                return Err(RunFault::Tasks);
-            }
-            Ok(report_of(alloc, units)?)
-        }
-        _ => Err(RunFault::NoMemory),
+    if let Err(halt) = shown {
+        return Err(halt.into());
     }
+    if !ends_by_eos(end) {
+        return Err(RunFault::NoMemory);
+    }
+    if !all_ended_by_eos(units) {
+        return Err(RunFault::NoMemory);
+    }
+    if over {
+        return Err(RunFault::Tasks);
+    }
+    Ok(report_of(alloc, units)?)
 }
 
 // Tells the units that no more records come, and prints all that they send. The stream has come to its end then.

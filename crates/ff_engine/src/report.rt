@@ -53,8 +53,8 @@ pub(crate) fn all_ended_by_eos<U: Unit>(units: &Vec<U>) -> bool
     units.iter().all(|unit| ends_by_eos(unit.end()))
 }
 
-// Whether a unit has ended by Eos.
-fn ends_by_eos(end: Option<End>) -> bool
+/// Whether a stream or a unit has ended by Eos.
+pub(crate) fn ends_by_eos(end: Option<End>) -> bool
     ensures { result ≡ ends_by_eos end }
 {
     match end {

@@ -61,8 +61,8 @@ returns-in_err-write-clause-counts g c =
     (c.in_err-write.ensures.counts
     ∙ ap more (counts-concluded (net_does g.N.Node.does) shown.result c.end-end.result false c.join-units.result.items _ c.in_ok-report.ensures _ _ shown.ensures.goes.counts))
 
-pub returns-in_ok-write-clause-ends : goal.returns-in_ok-write-clause-ends
-returns-in_ok-write-clause-ends g c =
+pub returns-clause-ends : goal.returns-clause-ends
+returns-clause-ends g c =
     let shown = c.close-shown in
     λ j xs front at.
     Ends-reported g.N.Node.does j (caller_of c.args.self.caller) (caller_of shown.new.caller) c.args.self.crew xs front at
@@ -76,8 +76,8 @@ returns-in_ok-write-clause-ends g c =
     (c.into_parts-first.ensures.text ∙ ap (λ s. s.text) c.hand_over.ensures)
     (subst (λ (l : List ℕ). Writes c.into_parts-first.result.2 l (g.O.Sink.taken shown.new.sink) (g.O.Sink.taken c.write.new.sink)) c.in_ok-write.ensures.empty c.in_ok-write.ensures.all))
 
-pub returns-in_ok-write-clause-work : goal.returns-in_ok-write-clause-work
-returns-in_ok-write-clause-work g c =
+pub returns-clause-work : goal.returns-clause-work
+returns-clause-work g c =
     let shown = c.close-shown in
     WorkedThrough-all g.N.Node.does (caller_of c.args.self.caller) (caller_of shown.new.caller) c.args.self.crew
     (put_of c.into_parts-first.result.0) c.join-units.result.items (got_of c.into_parts-first.result.1) _ _ c.join-units.ensures.joined
@@ -85,8 +85,8 @@ returns-in_ok-write-clause-work g c =
     (c.into_parts-first.ensures.got ∙ ap (λ s. s.got) c.hand_over.ensures)
     shown.result c.end-end.result false (Ok c.in_ok-report.report) c.in_ok-report.ensures shown.ensures.put
 
-pub returns-in_ok-write-clause-counts : goal.returns-in_ok-write-clause-counts
-returns-in_ok-write-clause-counts g c =
+pub returns-clause-counts : goal.returns-clause-counts
+returns-clause-counts g c =
     let shown = c.close-shown in
     c.in_ok-write.ensures.counts
     ∙ counts-concluded (net_does g.N.Node.does) shown.result c.end-end.result false c.join-units.result.items (Ok c.in_ok-report.report) c.in_ok-report.ensures _ _ shown.ensures.goes.counts
