@@ -54,7 +54,7 @@ pub(crate) fn prepare<N: Node + Send + 'static, R: Wait + Clone + Drop + Send + 
         board,
     } = network;
     let waits = rt.clone()?;
-    let running = RunningJobs::with_capacity(alloc, jobs.len())?;
+    let running = running_room(alloc, jobs.len())?;
     let Bells { own, units: others } = bells;
     Ok(Prepared {
         caller: Caller::new(
@@ -71,6 +71,17 @@ pub(crate) fn prepare<N: Node + Send + 'static, R: Wait + Clone + Drop + Send + 
         running,
         rt: waits,
     })
+}
+
+// Room for so many jobs while they run. It is a call of its own, since that jobs may go to another thread is shown for any
+// units that may.
+fn running_room<U: Unit + Send + 'static, R: Wait + Drop + Send + 'static>(
+    alloc: Global,
+    count: usize,
+) -> Result<RunningJobs<NetJob<U, R>>, NoMemory>
+    ensures { IfOk result (λ running. running ≡ record { jobs = []; room = count }) }
+{
+    RunningJobs::with_capacity(alloc, count)
 }
 
 /// Starts all jobs. Where that can't be done, those that were started are ended and joined.

@@ -1,4 +1,6 @@
 -- Each unit is opened, and the plan is wired.
+use denote.Param.Send.{sendable}
+use Rattle.std.proofs.Crossing.{crosses}
 use Rattle.std.proofs.Common.{◌≡◌, ◌≤◌, ◌∙◌, [], ◌∷◌, length, sym, ap, subst, arith}
 use Rattle.std.proofs.lemmas.List.{length-map}
 use Rattle.std.specs.List.{All, AllZip}
@@ -16,7 +18,11 @@ use Rattle.ff_engine.specs.Lines.{IsWired, Linked}
 use Rattle.ff_engine.specs.Networks.{UnitOf}
 use Rattle.ff_engine.proofs.Opened.{IsOpened-units}
 use Rattle.ff_engine.proofs.PlanEdges.{high-caps, length-edges, low-caps}
+use Rattle.ff_engine.proofs.UnitSent.{IsSend-unit}
 use Rattle.ff_engine.proofs.starting.prepare.Goals as goal
+
+pub running_room-requires-send-U : goal.running_room-requires-send-U
+running_room-requires-send-U g c κs within = let u = IsSend-unit _ c.type_bounds.send-N in search (sendable, crosses) depth 20
 
 pub link_units-requires-clause-opened : goal.link_units-requires-clause-opened
 link_units-requires-clause-opened g c =
