@@ -1,5 +1,5 @@
 -- How the calling thread goes on: one stretch behind another.
-use Rattle.std.proofs.Common.{◌≡◌, ℕ, List, [], ◌∷◌, ◌++◌, refl, sym, ap, ◌∙◌, append_assoc, append-nil}
+use Rattle.std.proofs.Common.{◌≡◌, ℕ, List, [], ◌∷◌, ◌++◌, refl, sym, ap, ap₂, ◌∙◌, append_assoc, append-nil}
 use Rattle.std.specs.Prelude.{Option, None, Some, Result, Ok, Err}
 use Rattle.std.proofs.KnownBytes.{Appends-nil, Appends-trans}
 use Rattle.std.proofs.lemmas.Grind.{flat_map-append}
@@ -7,7 +7,6 @@ use Rattle.ff_rec.specs.Lines.{Rec, line_of, text}
 use Rattle.ff_rec.specs.Streams.{items}
 use Rattle.ff_rec.specs.declared.msg.Msg.TheVariants.{Item, Mark, Pick, Eos, Abort}
 use Rattle.ff_node.specs.Runs.{Message}
-use Rattle.ff_stream.specs.Texts.{Writes, WritesSome}
 use Rattle.ff_stream.specs.Works.{halt_count}
 use Rattle.ff_stream.specs.declared.fault.Halt.{Halt}
 use Rattle.ff_stream.specs.declared.fault.Halt.TheVariants.{Write, NoMemory}
@@ -16,10 +15,10 @@ use Rattle.ff_engine.specs.Callers.{CallerState, Moves, Breaks, SameRings, GoesO
 
 -- the rings stay over two stretches
 pub SameRings-refl : (c : CallerState) → SameRings c c
-SameRings-refl c = record { writes = refl; reads = refl }
+SameRings-refl c = record { writes = refl; reads = refl; holds = refl }
 
 pub SameRings-trans : (c d e : CallerState) → SameRings c d → SameRings d e → SameRings c e
-SameRings-trans c d e first second = record { writes = second.writes ∙ first.writes; reads = second.reads ∙ first.reads }
+SameRings-trans c d e first second = record { writes = second.writes ∙ first.writes; reads = second.reads ∙ first.reads; holds = second.holds ∙ first.holds }
 
 -- more was taken over two stretches
 pub TakesMore-refl : (c : CallerState) → TakesMore c c
@@ -31,30 +30,24 @@ TakesMore-trans c d e first second = record {
   is = second.is ∙ ap (λ ms. ms ++ second.more) first.is ∙ append_assoc c.got first.more second.more;
 }
 
--- nothing happened
-pub Moves-refl : (c : CallerState) (t : Option (List ℕ)) → Moves c c t t
-Moves-refl c t = record {
-  written = [];
-  taken = Appends-nil t;
-  shows = λ front at. at ∙ ap (λ l. l ++ c.text) (sym (append-nil front));
-}
-
 -- one stretch behind another
-pub Moves-trans : (c d e : CallerState) (t t' t'' : Option (List ℕ)) → Moves c d t t' → Moves d e t' t'' → Moves c e t t''
-Moves-trans c d e t t' t'' first second = record {
+pub Moves-trans : (c d e : CallerState) (t t' t'' : Option (List ℕ)) → d.holds ≡ c.holds → Moves c d t t' → Moves d e t' t'' → Moves c e t t''
+Moves-trans c d e t t' t'' same first second = record {
   written = first.written ++ second.written;
   taken = Appends-trans t t' t'' first.written second.written first.taken second.taken;
   shows = λ front at. second.shows (front ++ first.written) (first.shows front at) ∙ ap (λ l. l ++ e.text) (append_assoc front first.written second.written);
+  waits = λ holds. ap₂ (λ l k. l ++ k) (first.waits holds) (second.waits (same ∙ holds));
 }
 
 -- a stretch behind which writing broke off
-pub Breaks-behind : (c d e : CallerState) (t t' t'' : Option (List ℕ)) → Moves c d t t' → Breaks d e t' t'' → Breaks c e t t''
-Breaks-behind c d e t t' t'' first second = record {
+pub Breaks-behind : (c d e : CallerState) (t t' t'' : Option (List ℕ)) → d.holds ≡ c.holds → Moves c d t t' → Breaks d e t' t'' → Breaks c e t t''
+Breaks-behind c d e t t' t'' same first second = record {
   written = first.written ++ second.written;
   taken = Appends-trans t t' t'' first.written second.written first.taken second.taken;
   shows = λ front at.
       let rest = second.shows (front ++ first.written) (first.shows front at) in
       (rest.0, rest.1 ∙ ap (λ l. l ++ rest.0) (append_assoc front first.written second.written));
+  waits = λ holds. ap₂ (λ l k. l ++ k) (first.waits holds) (second.waits (same ∙ holds));
 }
 
 -- more that was taken and isn't shown
@@ -68,35 +61,23 @@ Breaks-more c d e t t' broke more = record {
         ap (λ ms. text (items ms)) more.is ∙ ap text (items-append d.got more.more) ∙ flat_map-append line_of (items d.got) (items more.more)
             ∙ ap (λ l. l ++ text (items more.more)) rest.1 ∙ append_assoc (front ++ broke.written) rest.0 (text (items more.more)),
       );
+  waits = broke.waits;
 }
 
 -- the text of one message more
 text-more : (ms : List Message) (m : Message) → text (items (ms ++ m ∷ [])) ≡ text (items ms) ++ text (items (m ∷ []))
 text-more ms m = ap text (items-append ms (m ∷ [])) ∙ flat_map-append line_of (items ms) (items (m ∷ []))
 
--- a record came, its line is held, and some of what is held was written
-pub Moves-record : (c d e : CallerState) (r : Rec) (held : List ℕ) (t t' : Option (List ℕ)) → d.got ≡ c.got ++ Item r ∷ [] → held ≡ c.text ++ line_of r → e.got ≡ d.got
-    → Writes held e.text t t' → Moves c e t t'
-Moves-record c d e r held t t' took printed kept writes = record {
-  written = writes.put;
-  taken = writes.taken;
+-- a record came, and its line is held
+pub Moves-held : (c e : CallerState) (r : Rec) (t : Option (List ℕ)) → e.got ≡ c.got ++ Item r ∷ [] → e.text ≡ c.text ++ line_of r → Moves c e t t
+Moves-held c e r t took printed = record {
+  written = [];
+  taken = Appends-nil t;
   shows = λ front at.
-      ap (λ ms. text (items ms)) (kept ∙ took) ∙ text-more c.got (Item r) ∙ ap (λ l. l ++ text (r ∷ [])) at
+      ap (λ ms. text (items ms)) took ∙ text-more c.got (Item r) ∙ ap (λ l. l ++ text (r ∷ [])) at
       ∙ append_assoc front c.text (text (r ∷ [])) ∙ ap (λ l. front ++ (c.text ++ l)) (append-nil (line_of r))
-      ∙ ap (λ l. front ++ l) (sym printed ∙ writes.splits) ∙ sym (append_assoc front writes.put e.text);
-}
-
-pub Breaks-record : (c d e : CallerState) (r : Rec) (held : List ℕ) (t t' : Option (List ℕ)) → d.got ≡ c.got ++ Item r ∷ [] → held ≡ c.text ++ line_of r → e.got ≡ d.got
-    → WritesSome held t t' → Breaks c e t t'
-Breaks-record c d e r held t t' took printed kept writes = record {
-  written = writes.put;
-  taken = writes.taken;
-  shows = λ front at. (
-    writes.back,
-    ap (λ ms. text (items ms)) (kept ∙ took) ∙ text-more c.got (Item r) ∙ ap (λ l. l ++ text (r ∷ [])) at
-        ∙ append_assoc front c.text (text (r ∷ [])) ∙ ap (λ l. front ++ (c.text ++ l)) (append-nil (line_of r))
-        ∙ ap (λ l. front ++ l) (sym printed ∙ writes.splits) ∙ sym (append_assoc front writes.put writes.back),
-  );
+      ∙ ap (λ l. front ++ l) (sym printed) ∙ ap (λ l. l ++ e.text) (sym (append-nil front));
+  waits = λ holds. refl;
 }
 
 -- a record came that can't be held
@@ -109,6 +90,7 @@ Breaks-starved c e r t took = record {
     ap (λ ms. text (items ms)) took ∙ text-more c.got (Item r) ∙ ap (λ l. l ++ text (r ∷ [])) at
         ∙ append_assoc front c.text (text (r ∷ [])) ∙ ap (λ l. l ++ (c.text ++ text (r ∷ []))) (sym (append-nil front)),
   );
+  waits = λ holds. refl;
 }
 
 -- a message came that carries nothing
@@ -119,21 +101,7 @@ Moves-empty c e m t none took same = record {
   shows = λ front at.
       ap (λ ms. text (items ms)) took ∙ text-more c.got m ∙ ap (λ xs. text (items c.got) ++ text xs) none ∙ append-nil (text (items c.got)) ∙ at
       ∙ ap (λ l. front ++ l) (sym same) ∙ ap (λ l. l ++ e.text) (sym (append-nil front));
-}
-
--- what is held was written, all or a part of it
-pub Moves-written : (c e : CallerState) (t t' : Option (List ℕ)) → e.got ≡ c.got → Writes c.text e.text t t' → Moves c e t t'
-Moves-written c e t t' same writes = record {
-  written = writes.put;
-  taken = writes.taken;
-  shows = λ front at. ap (λ ms. text (items ms)) same ∙ at ∙ ap (λ l. front ++ l) writes.splits ∙ sym (append_assoc front writes.put e.text);
-}
-
-pub Breaks-written : (c e : CallerState) (t t' : Option (List ℕ)) → e.got ≡ c.got → WritesSome c.text t t' → Breaks c e t t'
-Breaks-written c e t t' same writes = record {
-  written = writes.put;
-  taken = writes.taken;
-  shows = λ front at. (writes.back, ap (λ ms. text (items ms)) same ∙ at ∙ ap (λ l. front ++ l) writes.splits ∙ sym (append_assoc front writes.put writes.back));
+  waits = λ holds. refl;
 }
 
 -- a message came that isn't a record
@@ -151,22 +119,25 @@ Moves-fed c e m t fed = record {
   taken = Appends-nil t;
   shows = λ front at.
       ap (λ s. text (items s.got)) fed ∙ at ∙ ap (λ l. l ++ c.text) (sym (append-nil front)) ∙ ap (λ s. (front ++ []) ++ s.text) (sym fed);
+  waits = λ holds. refl;
 }
 
 -- a stretch behind which a call goes on, or breaks off
 pub GoesOn-behind : {A : Type 0} (answer : Result A Halt) (c d e : CallerState) (t t' t'' : Option (List ℕ)) (n n' n'' : ℕ) → Moves c d t t' → SameRings c d → n' ≡ n
     → GoesOn d answer e t' t'' n' n'' → GoesOn c answer e t t'' n n''
 GoesOn-behind {A} (Ok a) c d e t t' t'' n n' n'' moves rings counts goes = record {
-  moves = Moves-trans c d e t t' t'' moves goes.moves;
+  moves = Moves-trans c d e t t' t'' rings.holds moves goes.moves;
   breaks = tt;
   rings = SameRings-trans c d e rings goes.rings;
   counts = goes.counts ∙ counts;
+  starves = tt;
 }
 GoesOn-behind {A} (Err halt) c d e t t' t'' n n' n'' moves rings counts goes = record {
   moves = tt;
-  breaks = Breaks-behind c d e t t' t'' moves goes.breaks;
+  breaks = Breaks-behind c d e t t' t'' rings.holds moves goes.breaks;
   rings = SameRings-trans c d e rings goes.rings;
   counts = goes.counts ∙ ap (λ k. halt_count {A = A} k (Err halt)) counts;
+  starves = λ holds. goes.starves (rings.holds ∙ holds);
 }
 
 -- and where it breaks off, so does the call that made it
@@ -174,15 +145,17 @@ pub GoesOn-broken : {A B : Type 0} (halt : Halt) (c d e : CallerState) (t t' t''
     → GoesOn {A = A} d (Err halt) e t' t'' n' n'' → GoesOn {A = B} c (Err halt) e t t'' n n''
 GoesOn-broken {A} {B} Write c d e t t' t'' n n' n'' moves rings counts goes = record {
   moves = tt;
-  breaks = Breaks-behind c d e t t' t'' moves goes.breaks;
+  breaks = Breaks-behind c d e t t' t'' rings.holds moves goes.breaks;
   rings = SameRings-trans c d e rings goes.rings;
   counts = goes.counts ∙ ap (λ k. halt_count {A = B} k (Err Write)) counts;
+  starves = λ holds. goes.starves (rings.holds ∙ holds);
 }
 GoesOn-broken {A} {B} NoMemory c d e t t' t'' n n' n'' moves rings counts goes = record {
   moves = tt;
-  breaks = Breaks-behind c d e t t' t'' moves goes.breaks;
+  breaks = Breaks-behind c d e t t' t'' rings.holds moves goes.breaks;
   rings = SameRings-trans c d e rings goes.rings;
   counts = goes.counts ∙ counts;
+  starves = λ holds. goes.starves (rings.holds ∙ holds);
 }
 
 -- and more is taken of which nothing is shown
@@ -193,10 +166,12 @@ GoesOn-more Write c d e t t' n n' goes more rings = record {
   breaks = Breaks-more c d e t t' goes.breaks more;
   rings = SameRings-trans c d e goes.rings rings;
   counts = goes.counts;
+  starves = goes.starves;
 }
 GoesOn-more NoMemory c d e t t' n n' goes more rings = record {
   moves = tt;
   breaks = Breaks-more c d e t t' goes.breaks more;
   rings = SameRings-trans c d e goes.rings rings;
   counts = goes.counts;
+  starves = goes.starves;
 }

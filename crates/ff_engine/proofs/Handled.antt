@@ -1,5 +1,5 @@
 -- How much the jobs of a network handled that have all ended with their ins.
-use Rattle.std.proofs.Common.{◌≡◌, ℕ, ◌+◌, ◌-◌, ◌≤◌, false, List, [], ◌∷◌, ◌++◌, length, map, sum_by, refl, sym, ap, ◌∙◌, subst, arith}
+use Rattle.std.proofs.Common.{◌≡◌, ℕ, ◌+◌, ◌-◌, ◌≤◌, List, [], ◌∷◌, ◌++◌, length, map, sum_by, refl, sym, ap, ◌∙◌, subst, arith}
 use Rattle.std.proofs.lemmas.List.{length-append, length-map}
 use Rattle.std.proofs.lemmas.List.Sums.{sum_by-cons}
 use Rattle.std.proofs.lemmas.List.Elements.{All-head, All-tail}
@@ -11,8 +11,7 @@ use Rattle.ff_rec.specs.Weights.{weigh}
 use Rattle.ff_node.specs.Behaviour.{Behaviour}
 use Rattle.ff_node.specs.Runs.{Message}
 use Rattle.ff_net.specs.Counts.{units}
-use Rattle.ff_net.specs.Forms.{has_wrap}
-use Rattle.ff_net.specs.Tree.{Tree}
+use Rattle.ff_net.specs.Tree.{Tree, Leaf, Pipe, Comb, Farm, OFarm, A2a, Wrap}
 use Rattle.ff_plan.specs.Laying.{units_of}
 use Rattle.ff_plan.specs.Plans.{rows_of}
 use Rattle.ff_plan.specs.Rows.{Laid, Row}
@@ -28,7 +27,7 @@ use Rattle.ff_steps.specs.OverEdges.{RanAlong}
 use Rattle.ff_steps.proofs.Heads.{head-same, tail-same, cons≢nil}
 use Rattle.ff_steps.proofs.OverEnds.{HasEndedWell}
 use Rattle.ff_steps.proofs.Ports.{each-port}
-use Rattle.ff_steps.proofs.Shapes.{IsShaped, HasShape, shapes-lay}
+use Rattle.ff_steps.proofs.Shapes.{IsMasterOf, IsShaped, HasShape, shapes-lay}
 use Rattle.ff_steps.proofs.MessageLists.{closed-front}
 use Rattle.ff_unit.specs.Units.{Doing, IsUnit, Ran}
 use Rattle.ff_engine.specs.Jobs.{JobState, handled}
@@ -57,19 +56,29 @@ weigh-rows h (l ∷ ls) = ap (λ n. h l.row + n) (weigh-rows h ls)
 abbrev inner : (ℕ → List Message) → ℕ → ℕ
 inner got e = length (got e) - 1
 
+-- a master has an in for the records, at least
+master_ins : {N : Type 0} (t : Tree N) (n k : ℕ) → IsMasterOf t n k → 1 ≤ n
+master_ins (Leaf o) n k shape = absurd shape
+master_ins (Pipe ts) n k shape = absurd shape
+master_ins (Comb ts) n k shape = absurd shape
+master_ins (Farm c s w) n k shape = absurd shape
+master_ins (OFarm c s w) n k shape = absurd shape
+master_ins (A2a c l r j t) n k shape = absurd shape
+master_ins (Wrap c w p) n k shape = omega (arith, shape.1)
+
 -- a unit has an in at least
-some_ins : (is_of : UnitKind) (n k : ℕ) → IsShaped is_of n k → 1 ≤ n
-some_ins Stage n k shape = omega (arith, shape.0)
-some_ins DealRr n k shape = omega (arith, shape.0)
-some_ins DealOd n k shape = omega (arith, shape.0)
-some_ins (DealBy f) n k shape = omega (arith, shape.0)
-some_ins Merge n k shape = shape.0.0
-some_ins ODealRr n k shape = omega (arith, shape.0)
-some_ins ODealOd n k shape = omega (arith, shape.0)
-some_ins OMergeTurn n k shape = shape.0.0
-some_ins OMergePick n k shape = omega (arith, shape.0.is)
-some_ins Master n k shape = absurd shape
-some_ins Worker n k shape = absurd shape
+some_ins : {N : Type 0} (b : Behaviour N) (is_of : UnitKind) (t : Tree N) (n k : ℕ) → IsShaped b is_of t n k → 1 ≤ n
+some_ins b Stage t n k shape = omega (arith, shape.0)
+some_ins b DealRr t n k shape = omega (arith, shape.0)
+some_ins b DealOd t n k shape = omega (arith, shape.0)
+some_ins b (DealBy f) t n k shape = omega (arith, shape.0)
+some_ins b Merge t n k shape = shape.0.0
+some_ins b ODealRr t n k shape = omega (arith, shape.0)
+some_ins b ODealOd t n k shape = omega (arith, shape.0)
+some_ins b OMergeTurn t n k shape = shape.0.0
+some_ins b OMergePick t n k shape = omega (arith, shape.0.is)
+some_ins b Master t n k shape = master_ins t n k shape
+some_ins b Worker t n k shape = omega (arith, shape.0)
 
 module _ (got put : ℕ → List Message) where
   -- an edge from which all was got that was put there
@@ -99,18 +108,18 @@ module _ (got put : ℕ → List Message) where
       omega (arith, some, weigh-shut es shut.1)
 
   -- each unit got an end at least
-  ends-got : {N : Type 0} (ls : List (Laid N)) → AllByRecursion HasShape ls → AllByRecursion (AllByRecursion IsShut) (unit_ins (map (λ (l : Laid N). l.row) ls))
+  ends-got : {N : Type 0} (b : Behaviour N) (ls : List (Laid N)) → AllByRecursion (HasShape b) ls → AllByRecursion (AllByRecursion IsShut) (unit_ins (map (λ (l : Laid N). l.row) ls))
       → length ls + weigh_ins (inner got) ls ≤ weigh_ins (λ e. length (got e)) ls
-  ends-got [] shapes shut = omega arith
-  ends-got (l ∷ ls) shapes shut =
+  ends-got b [] shapes shut = omega arith
+  ends-got b (l ∷ ls) shapes shut =
       omega (
         arith,
-        some_ins l.row.kind (length l.row.ins) (length l.row.outs) shapes.0,
+        some_ins b l.row.kind l.net (length l.row.ins) (length l.row.outs) shapes.0,
         weigh-shut l.row.ins shut.0,
-        ends-got ls shapes.1 shut.1,
+        ends-got b ls shapes.1 shut.1,
       )
 
-module _ {N : Type 0} (b : Behaviour N) (units_laws : IsUnit (net_does b)) (net : Tree N) (laws : HasLaws b net) (free : has_wrap net ≡ false) (got put : ℕ → List Message) where
+module _ {N : Type 0} (b : Behaviour N) (units_laws : IsUnit (net_does b)) (net : Tree N) (laws : HasLaws b net) (got put : ℕ → List Message) where
   -- an end for each unit, and all records
   pub handled-all : (us : List (UnitOf N)) (jobs : List (JobState (UnitOf N))) → All (λ job. HasMoved got put job) jobs → map (λ job. job.row) jobs ≡ rows_of net
       → RanAlong (net_does b) got put (rows_of net) us → AllByRecursion (HasEndedWell (net_does b)) us
@@ -131,7 +140,7 @@ module _ {N : Type 0} (b : Behaviour N) (units_laws : IsUnit (net_does b)) (net 
         arith,
         handled-moved got put jobs moved,
         weight,
-        ends-got got put (units_of net) (shapes-lay b net free laws.good [] 0 1 2) shut,
+        ends-got got put b (units_of net) (shapes-lay b net laws.good [] 0 1 2) shut,
         ins-lay (inner got) b net laws.good [] 0 1 2,
         records,
         many,

@@ -1,12 +1,11 @@
 -- From a network that was checked to the jobs that stand for it.
-use Rattle.std.proofs.Common.{◌≡◌, ℕ, Bool, false, List, [], ◌∷◌, length, map, refl, sym, ap, ◌∙◌, subst}
+use Rattle.std.proofs.Common.{◌≡◌, ℕ, Bool, List, [], ◌∷◌, length, map, refl, sym, ap, ◌∙◌, subst}
 use Rattle.std.specs.Prelude.{Err}
 use Rattle.std.proofs.lemmas.List.{length-map}
 use Rattle.ff_rec.specs.Lines.{text}
 use Rattle.ff_rec.specs.Streams.{items}
 use Rattle.ff_node.specs.Behaviour.{Behaviour, KeepsKind}
 use Rattle.ff_net.specs.Counts.{units}
-use Rattle.ff_net.specs.Forms.{has_wrap}
 use Rattle.ff_net.specs.Tree.{Tree}
 use Rattle.ff_net.specs.declared.net.Version.{Version}
 use Rattle.ff_plan.specs.Plans.{rows_of}
@@ -31,19 +30,20 @@ NetRan-denied j s NoMemory left faults taken = IsCutShort-none j s left taken
 
 module _ {N : Type 0} (b : Behaviour N) where
   -- nothing was put and nothing came, so no record was fed
-  pub HasFed-prepared : (t : Tree N) (version : Version) (limit : ℕ) (keep : Bool) → HasLaws b t → has_wrap t ≡ false
+  pub HasFed-prepared : (t : Tree N) (version : Version) (limit : ℕ) (keep : Bool) → HasLaws b t
       → (c c' : CallerState) (jobs crew : List (JobState (UnitOf N))) (unit_room room ins outs : ℕ) → c' ≡ c → crew ≡ jobs
-      → (us' : List (UnitOf N)) (running : List (JobState (UnitOf N))) → IsPrepared b keep t c jobs us' unit_room running room ins outs
+      → (us' : List (UnitOf N)) (running : List (JobState (UnitOf N))) → IsPrepared b limit keep t c jobs us' unit_room running room ins outs
       → HasFed b (job b t version limit keep) c' crew [] []
-  HasFed-prepared t version limit keep laws whole c c' jobs crew unit_room room ins outs same started us' running prepared =
+  HasFed-prepared t version limit keep laws c c' jobs crew unit_room room ins outs same started us' running prepared =
       let j = job b t version limit keep in
       subst (λ s. HasFed b j s crew [] []) (sym same) (subst (λ js. HasFed b j c js [] []) (sym started) (record {
         put = prepared.put;
         linked = prepared.linked;
         shows = ap (λ ms. text (items ms)) prepared.got ∙ sym prepared.text;
+        holds = prepared.holds;
+        waits = λ wraps. refl;
         made = record {
           does_is = refl;
-          whole = whole;
           laws = laws;
           units_are = prepared.units_are;
           rows_are = prepared.rows_are;
@@ -51,7 +51,7 @@ module _ {N : Type 0} (b : Behaviour N) where
       }))
 
   -- as many jobs as units
-  pub length-prepared : (t : Tree N) (keep : Bool) (c : CallerState) (jobs : List (JobState (UnitOf N))) (unit_room room ins outs : ℕ)
-      (us : List (UnitOf N)) (running : List (JobState (UnitOf N))) → IsPrepared b keep t c jobs us unit_room running room ins outs → length jobs ≡ units t
-  length-prepared t keep c jobs unit_room room ins outs us running prepared =
+  pub length-prepared : (t : Tree N) (limit : ℕ) (keep : Bool) (c : CallerState) (jobs : List (JobState (UnitOf N))) (unit_room room ins outs : ℕ)
+      (us : List (UnitOf N)) (running : List (JobState (UnitOf N))) → IsPrepared b limit keep t c jobs us unit_room running room ins outs → length jobs ≡ units t
+  length-prepared t limit keep c jobs unit_room room ins outs us running prepared =
       sym (length-map jobs (λ job. job.row)) ∙ ap length prepared.rows_are ∙ length-rows_of t

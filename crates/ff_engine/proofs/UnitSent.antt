@@ -18,6 +18,24 @@ use Rattle.ff_unit.specs.contracts.flags.Flags as Flags
 use Rattle.ff_unit.specs.contracts.merge.Merge as Merge
 use Rattle.ff_order.specs.contracts.odeal.ODeal as ODeal
 use Rattle.ff_order.specs.contracts.omerge.OMerge as OMerge
+use Rattle.ff_unit.specs.contracts.runner.NodeRunner as Runner
+use Rattle.ff_unit.specs.contracts.mode.Mode as Mode
+use Rattle.ff_port.specs.contracts.answers.End as End
+use Rattle.ff_rec.specs.contracts.records.Records as Records
+use Rattle.ff_net.specs.contracts.net.Test as Test
+use Rattle.ff_net.specs.contracts.tasks.Tasks as Tasks
+use Rattle.ff_loop.specs.contracts.events.Events as Events
+use Rattle.ff_loop.specs.contracts.events.Happened as Happened
+use Rattle.ff_loop.specs.contracts.log.Log as Log
+use Rattle.ff_loop.specs.contracts.log.Moved as Moved
+use Rattle.ff_loop.specs.contracts.numbers.Numbers as Numbers
+use Rattle.ff_loop.specs.contracts.worklist.Worklist as Worklist
+use Rattle.ff_loop.specs.contracts.master.Master as Master
+use Rattle.ff_loop.specs.contracts.rounds.Rounds as Rounds
+use Rattle.ff_loop.specs.contracts.work.Work as Work
+use Rattle.ff_loop.specs.contracts.wrap_master.WrapMaster as WrapMaster
+use Rattle.ff_loop.specs.contracts.wrap_master.WrapMaster.TheInside as WrapInside
+use Rattle.ff_loop.specs.contracts.worker.WrapWorker as WrapWorker
 use Rattle.ff_steps.specs.contracts.net_unit.Part as Part
 use Rattle.ff_steps.specs.contracts.net_unit.NetUnit as NetUnit
 use Rattle.ff_steps.specs.contracts.net_unit.NetUnit.TheInside as Inside
@@ -55,16 +73,102 @@ IsSend-sends = let r = IsSend-record in search (sendable, crosses) depth 40
 IsSend-past : IsSend (Past.the_row Record.the_row)
 IsSend-past = let r = IsSend-record in search (sendable, crosses, past_crosses) depth 40
 
+-- what a master keeps of its tasks
+IsSend-records : IsSend Records.the_row
+IsSend-records = let r = IsSend-record in search (sendable, crosses) depth 40
+
+IsSend-test : IsSend Test.the_row
+IsSend-test = search (sendable, crosses) depth 40
+
+IsSend-tasks : IsSend Tasks.the_row
+IsSend-tasks = let r = IsSend-records in search (sendable, crosses) depth 40
+
+IsSend-happened : IsSend (Happened.the_row Record.the_row Sends.the_row)
+IsSend-happened = let r = IsSend-record in let s = IsSend-sends in search (sendable, crosses) depth 40
+
+IsSend-events : IsSend (Events.the_row Record.the_row Sends.the_row)
+IsSend-events = let h = IsSend-happened in search (sendable, crosses, past_crosses) depth 40
+
+IsSend-moved : IsSend (Moved.the_row Record.the_row Sends.the_row)
+IsSend-moved = let r = IsSend-record in let s = IsSend-sends in search (sendable, crosses) depth 40
+
+IsSend-log : IsSend (Log.the_row Record.the_row Sends.the_row)
+IsSend-log = let m = IsSend-moved in search (sendable, crosses, past_crosses) depth 40
+
+IsSend-numbers : IsSend Numbers.the_row
+IsSend-numbers = search (sendable, crosses) depth 40
+
+IsSend-worklist : IsSend Worklist.the_row
+IsSend-worklist =
+    let c = IsSend-test in let t = IsSend-tasks in let e = IsSend-events in let p = IsSend-past in search (sendable, crosses) depth 40 fits 8000
+
+IsSend-master : IsSend (Master.the_row Record.the_row Sends.the_row Worklist.the_row)
+IsSend-master = let w = IsSend-worklist in let n = IsSend-numbers in let l = IsSend-log in search (sendable, crosses) depth 40
+
+IsSend-rounds : IsSend Rounds.the_row
+IsSend-rounds = let m = IsSend-master in search (sendable, crosses) depth 40
+
+IsSend-work : IsSend Work.the_row
+IsSend-work = let r = IsSend-rounds in search (sendable, crosses) depth 40
+
+IsSend-mode : IsSend Mode.the_row
+IsSend-mode = search (sendable, crosses) depth 40
+
+IsSend-end : IsSend End.the_row
+IsSend-end = search (sendable, crosses) depth 40
+
+IsSend-wrap_inside : IsSend WrapInside.the_row
+IsSend-wrap_inside =
+    let w = IsSend-work in let s = IsSend-sends in let f = IsSend-flags in let h = IsSend-held in let m = IsSend-mode in let e = IsSend-end in
+    declared_send WrapInside.the_type (
+      search (sendable, crosses) depth 40,
+      (
+        search (sendable, crosses) depth 40,
+        (
+          search (sendable, crosses) depth 40,
+          (
+            search (sendable, crosses) depth 40,
+            (
+              search (sendable, crosses) depth 40,
+              (
+                search (sendable, crosses) depth 40,
+                (
+                  search (sendable, crosses) depth 40,
+                  (
+                    search (sendable, crosses) depth 40,
+                    (
+                      search (sendable, crosses) depth 40,
+                      (search (sendable, crosses) depth 40, tt),
+                    ),
+                  ),
+                ),
+              ),
+            ),
+          ),
+        ),
+      ),
+    )
+
+IsSend-wrap : IsSend WrapMaster.the_row
+IsSend-wrap = view_send WrapInside.the_row _ _ _ _ IsSend-wrap_inside
+
 module _ (N : RattleType) (sent : IsSend N) where
   IsSend-comb : IsSend (Comb.the_row N)
   IsSend-comb = search (sendable, crosses) depth 40
 
+  IsSend-runner : IsSend (Runner.the_row (Comb.the_row N))
+  IsSend-runner = let o = IsSend-one in let s = IsSend-sends in let p = IsSend-past in let c = IsSend-comb in search (sendable, crosses) depth 40
+
   IsSend-stage : IsSend (Stage.the_row (Comb.the_row N))
-  IsSend-stage = let o = IsSend-one in let s = IsSend-sends in let p = IsSend-past in let c = IsSend-comb in search (sendable, crosses) depth 40
+  IsSend-stage = let r = IsSend-runner in search (sendable, crosses) depth 40
+
+  IsSend-worker : IsSend (WrapWorker.the_row (Comb.the_row N))
+  IsSend-worker = let r = IsSend-runner in search (sendable, crosses) depth 40
 
   IsSend-part : IsSend (Part.the_field N).row
   IsSend-part =
-      let d = IsSend-deal in let g = IsSend-odeal in let m = IsSend-merge in let o = IsSend-omerge in let s = IsSend-stage in
+      let d = IsSend-deal in let g = IsSend-odeal in let j = IsSend-merge in let o = IsSend-omerge in let s = IsSend-stage in
+      let m = IsSend-wrap in let w = IsSend-worker in
       search (sendable, crosses) depth 40
 
   IsSend-inside : IsSend (Inside.the_row N)

@@ -1,5 +1,5 @@
 -- The calling thread's ends of a line of rings, and how it goes on.
-use Rattle.std.specs.Prelude.{◌≡◌, ℕ, List, [], ◌∷◌, ◌++◌, ◌⊎◌, Option, None, Some, Result, OnOk, OnErr}
+use Rattle.std.specs.Prelude.{◌≡◌, ℕ, Bool, true, List, [], ◌∷◌, ◌++◌, ◌⊎◌, Option, None, Some, Result, OnOk, OnErr, IfErr}
 use Rattle.std.specs.Io.KnownBytes.{Appends}
 use Rattle.ff_rec.specs.Lines.{text}
 use Rattle.ff_rec.specs.Streams.{items}
@@ -10,6 +10,7 @@ use Rattle.ff_ring.specs.Bundles.{EndsWith}
 use Rattle.ff_ring.specs.Names.{RingName}
 use Rattle.ff_stream.specs.Works.{halt_count}
 use Rattle.ff_stream.specs.declared.fault.Halt.{Halt}
+use Rattle.ff_stream.specs.declared.fault.Halt.TheVariants.{NoMemory}
 
 pub record CallerState : Type 0 where
   -- what it put on the first ring, and what it took from the last one
@@ -17,6 +18,8 @@ pub record CallerState : Type 0 where
   pub got : List Message
   -- the text that is held to be written
   pub text : List ℕ
+  -- whether all of it is held until the units have ended
+  pub holds : Bool
   -- how the stream ended, once its end came
   pub end : Option End
   -- the ring that it writes, and the one that it reads
@@ -31,29 +34,38 @@ EndsWithEos ms = EndsWith (Eos ∷ []) ms
 abbrev pub Shows : List ℕ → CallerState → Type 0
 Shows front c = text (items c.got) ≡ front ++ c.text
 
--- the rings stay
+-- the rings stay, and whether all text is held
 pub record SameRings (c c' : CallerState) : Type 0 where
   pub writes : c'.writes ≡ c.writes
   pub reads : c'.reads ≡ c.reads
+  pub holds : c'.holds ≡ c.holds
+
+-- where all text is held, nothing was written
+abbrev pub Waits : CallerState → List ℕ → Type 0
+Waits c written = c.holds ≡ true → written ≡ []
 
 -- records came, and bytes were written
 pub record Moves (c c' : CallerState) (before now : Option (List ℕ)) : Type 0 where
   pub written : List ℕ
   pub taken : Appends before now written
   pub shows : (front : List ℕ) → Shows front c → Shows (front ++ written) c'
+  pub waits : Waits c written
 
 -- records came, and the writing of their text broke off
 pub record Breaks (c c' : CallerState) (before now : Option (List ℕ)) : Type 0 where
   pub written : List ℕ
   pub taken : Appends before now written
   pub shows : (front : List ℕ) → Shows front c → (back : List ℕ) × (text (items c'.got) ≡ (front ++ written) ++ back)
+  pub waits : Waits c written
 
--- what came was shown, or the writing of it broke off, and the sink counts its fault
+-- What came was shown, or the writing of it broke off, and the sink counts its fault. Where all text is held, it breaks off for want of
+-- memory alone.
 pub record GoesOn {A : Type 0} (c : CallerState) (answer : Result A Halt) (c' : CallerState) (before now : Option (List ℕ)) (faults faults' : ℕ) : Type 0 where
   pub moves : OnOk answer (Moves c c' before now)
   pub breaks : OnErr answer (Breaks c c' before now)
   pub rings : SameRings c c'
   pub counts : faults' ≡ halt_count faults answer
+  pub starves : IfErr answer (λ halt. c.holds ≡ true → halt ≡ NoMemory)
 
 -- more was taken
 pub record TakesMore (c c' : CallerState) : Type 0 where

@@ -1,5 +1,5 @@
 -- The jobs that stand for a network, and how far a run by threads has come.
-use Rattle.std.specs.Prelude.{◌≡◌, ℕ, ◌+◌, ◌≤◌, false, List, ◌++◌, map, length}
+use Rattle.std.specs.Prelude.{◌≡◌, ℕ, ◌+◌, ◌≤◌, true, List, [], ◌++◌, map, length}
 use Rattle.ff_rec.specs.Lines.{Rec, text}
 use Rattle.ff_rec.specs.Streams.{items, carried}
 use Rattle.ff_node.specs.Behaviour.{Behaviour, KeepsKind}
@@ -14,6 +14,8 @@ use Rattle.ff_spawn.specs.Counts.{RoseBy}
 use Rattle.ff_steps.specs.NetUnits.{NetState}
 use Rattle.ff_steps.specs.PlanUnits.{opened_units}
 use Rattle.ff_stream.specs.Jobs.{Job}
+use Rattle.ff_stream.specs.declared.fault.Halt.{Halt}
+use Rattle.ff_stream.specs.declared.fault.Halt.TheVariants.{NoMemory}
 use Rattle.ff_engine.specs.Callers.{CallerState, Shows}
 use Rattle.ff_engine.specs.Jobs.{JobState}
 use Rattle.ff_engine.specs.Lines.{Linked}
@@ -33,24 +35,26 @@ pub record HasLaws {N : Type 0} (b : Behaviour N) (net : Tree N) : Type 0 where
 -- these jobs were made of the network of a run, by its plan
 pub record AreJobsOf {N : Type 0} (b : Behaviour N) (j : Job N) (jobs : List (JobState (UnitOf N))) : Type 0 where
   pub does_is : j.does ≡ b
-  pub whole : has_wrap j.net ≡ false
   pub laws : HasLaws b j.net
-  pub units_are : map (λ job. job.unit) jobs ≡ opened_units b j.keep j.net
+  pub units_are : map (λ job. job.unit) jobs ≡ opened_units b j.tasks j.keep j.net
   pub rows_are : map (λ job. job.row) jobs ≡ rows_of j.net
 
--- the records were put on the first ring, and these bytes were written of what came
+-- the records were put on the first ring, and these bytes were written of what came: none with a wrap, whose text is held
 pub record HasFed {N : Type 0} (b : Behaviour N) (j : Job N) (c : CallerState) (jobs : List (JobState (UnitOf N))) (xs : List Rec) (front : List ℕ) : Type 0 where
   pub put : c.put ≡ carried xs
   pub linked : Linked c.writes jobs c.reads
   pub shows : Shows front c
+  pub holds : c.holds ≡ has_wrap j.net
+  pub waits : has_wrap j.net ≡ true → front ≡ []
   pub made : AreJobsOf b j jobs
 
--- the same where writing broke off: of the text of what came these bytes were written
-pub record HasStopped {N : Type 0} (b : Behaviour N) (j : Job N) (c : CallerState) (jobs : List (JobState (UnitOf N))) (xs : List Rec) (front : List ℕ) : Type 0 where
+-- it broke off at this halt, and of the text of what came these bytes were written: with a wrap for want of memory, and none
+pub record HasStopped {N : Type 0} (b : Behaviour N) (j : Job N) (c : CallerState) (jobs : List (JobState (UnitOf N))) (halt : Halt) (xs : List Rec) (front : List ℕ) : Type 0 where
   pub put : c.put ≡ carried xs
   pub linked : Linked c.writes jobs c.reads
   pub back : List ℕ
   pub splits : text (items c.got) ≡ front ++ back
+  pub waits : has_wrap j.net ≡ true → (front ≡ []) × (halt ≡ NoMemory)
   pub made : AreJobsOf b j jobs
 
 -- the jobs handled each record and an end for each unit

@@ -9,6 +9,7 @@ caller_of c = record {
   put = put_of c.first;
   got = got_of c.last;
   text = c.text;
+  holds = c.holds;
   end = c.end;
   writes = written_ring c.first;
   reads = read_ring c.last;

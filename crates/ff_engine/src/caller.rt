@@ -15,7 +15,7 @@ use ff_stream::Text;
 use std::alloc::Global;
 use std::sync::{Arc, Wait};
 
-/// The ends that the calling thread has: it feeds the first ring, and writes the records that come over the last one.
+/// The ends that the calling thread has: it feeds the first ring, and prints the records that come over the last one.
 #[derive(Drop)]
 pub(crate) struct Caller {
     first: RingOut<Record>,
@@ -25,6 +25,8 @@ pub(crate) struct Caller {
     bells: Vec<Arc<Bell, Global>>,
     // What came and isn't written yet.
     text: Text,
+    // Whether all of it is held until the units have ended: only then is it known whether it is to be written.
+    holds: bool,
     // How the stream ended, once its end came. Nothing is taken then.
     end: Option<End>,
     ghost closes: { end ≡ Some Eos → EndsWithEos (got_of last) },
@@ -41,11 +43,13 @@ impl Caller {
         last: RingIn<Record>,
         pause: Pause,
         bells: Vec<Arc<Bell, Global>>,
+        holds: bool,
     ) -> Caller
         ensures { caller_of result ≡ record {
           put = put_of first;
           got = got_of last;
           text = [];
+          holds = holds;
           end = None;
           writes = written_ring first;
           reads = read_ring last;
@@ -57,6 +61,7 @@ impl Caller {
             pause,
             bells,
             text: Text::new(alloc),
+            holds,
             end: None,
         }
     }
@@ -74,15 +79,21 @@ impl Caller {
         self.end == Some(End::Abort)
     }
 
-    /// The two ends.
-    pub(crate) fn into_ends(self) -> (RingOut<Record>, RingIn<Record>)
+    /// The two ends, and the text that isn't written yet.
+    pub(crate) fn into_parts(self) -> (RingOut<Record>, RingIn<Record>, Text)
         ensures put { put_of result.0 ≡ (caller_of self).put }
         ensures got { got_of result.1 ≡ (caller_of self).got }
+        ensures text { result.2 ≡ (caller_of self).text }
         ensures writes { written_ring result.0 ≡ (caller_of self).writes }
         ensures reads { read_ring result.1 ≡ (caller_of self).reads }
     {
-        let Caller { first, last, .. } = self;
-        (first, last)
+        let Caller {
+            first,
+            last,
+            text,
+            ..
+        } = self;
+        (first, last, text)
     }
 
     /// Takes a message. None comes behind the end.

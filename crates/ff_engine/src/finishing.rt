@@ -16,7 +16,7 @@ ghost use Rattle.ff_engine.specs.Seen.{caller_of};
 use crate::NetJob;
 use crate::caller::Caller;
 use crate::line::Line;
-use crate::report::{all_ended_by_eos, report_of};
+use crate::report::{all_ended_by_eos, any_over, ends_by_eos, report_of};
 use ff_io::Sink;
 use ff_node::Node;
 use ff_port::End;
@@ -29,7 +29,7 @@ use std::alloc::Global;
 use std::sync::Wait;
 
 impl<N: Node + Send + 'static, R: Wait + Drop + Send + 'static> Line<N, R> {
-    /// Tells the units that no record comes any more, writes all that they send, and joins their threads.
+    /// Tells the units that no record comes any more, joins their threads, and writes all that they sent.
     pub(crate) fn finish<S: Spawner<NetJob<NetUnit<N>, R>>, O: Sink>(
         self,
         alloc: Global,
@@ -52,9 +52,12 @@ impl<N: Node + Send + 'static, R: Wait + Drop + Send + 'static> Line<N, R> {
         let shown = close(&mut caller, &rt, sink);
         caller.hand_over(&rt);
         let end = caller.end();
-        let (first, last) = caller.into_ends();
+        let (first, last, mut text) = caller.into_parts();
         let mut units = crew.join(first, last, by);
-        conclude(alloc, shown, end, &mut units)
+        let over = any_over(&units);
+        let report = conclude(alloc, shown, end, over, &mut units)?;
+        text.write(sink)?;
+        Ok(report)
     }
 
     /// Tells the units that the stream is cut off, and joins their threads. What was written begins an answer, whatever
@@ -62,7 +65,7 @@ impl<N: Node + Send + 'static, R: Wait + Drop + Send + 'static> Line<N, R> {
     pub(crate) fn give_up<S: Spawner<NetJob<NetUnit<N>, R>>>(self, by: &mut S)
         requires { Linked (caller_of self.caller).writes self.crew (caller_of self.caller).reads }
         ensures opens { (j : Job N) (halt : Halt) (xs : List Rec) (front : List ℕ)
-            → HasStopped N.does j (caller_of self.caller) self.crew xs front
+            → HasStopped N.does j (caller_of self.caller) self.crew halt xs front
             → IsOpenRun j halt xs front }
         ensures joins { JoinsOnly (S.refused by.old) (S.refused by.new) (S.starts by.old) (S.starts by.new)
             (S.worked by.old) (S.worked by.new) }
@@ -70,33 +73,41 @@ impl<N: Node + Send + 'static, R: Wait + Drop + Send + 'static> Line<N, R> {
         let Line { caller, crew, rt } = self;
         let mut caller = caller;
         caller.stop(&rt);
-        let (first, last) = caller.into_ends();
+        let (first, last, _) = caller.into_parts();
         crew.join(first, last, by);
     }
 }
 
-// The answer of a run whose threads were joined, by whether all that came was shown, and by how the stream and the units
-// ended.
+// The answer of a run whose threads were joined, by whether all that came was printed, by how the stream and the units
+// ended, and by whether one of them is over its limit of tasks.
 fn conclude<U: Unit>(
     alloc: Global,
     shown: Result<(), Halt>,
     end: Option<End>,
+    over: bool,
     units: &mut Vec<U>,
 ) -> Result<Report, RunFault>
-    ensures { Concludes U.does shown end units.old.items result }
+    ensures { Concludes U.does shown end over units.old.items result }
 {
-    match (shown, end) {
-        (Err(halt), _) => Err(halt.into()),
-        (Ok(()), Some(End::Eos)) if all_ended_by_eos(units) => Ok(report_of(alloc, units)?),
-        _ => Err(RunFault::NoMemory),
+    if let Err(halt) = shown {
+        return Err(halt.into());
     }
+    if !ends_by_eos(end) {
+        return Err(RunFault::NoMemory);
+    }
+    if !all_ended_by_eos(units) {
+        return Err(RunFault::NoMemory);
+    }
+    if over {
+        return Err(RunFault::Tasks);
+    }
+    Ok(report_of(alloc, units)?)
 }
 
-// Tells the units that no more records come, and shows all that they send. The stream has come to its end then.
+// Tells the units that no more records come, and prints all that they send. The stream has come to its end then.
 fn close<R: Wait, O: Sink>(caller: &mut Caller, rt: &R, sink: &mut O) -> Result<(), Halt>
     requires { IsOpen (caller_of caller.old).put }
     ensures put { OnOk result ((caller_of caller.new).put ≡ (caller_of caller.old).put ++ Eos ∷ []) }
-    ensures written { OnOk result ((caller_of caller.new).text ≡ []) }
     ensures end { OnOk result ((caller_of caller.new).end ≢ None) }
     ensures ends { OnErr result (EndsOnce (caller_of caller.old).put (caller_of caller.new).put) }
     ensures goes { GoesOn (caller_of caller.old) result (caller_of caller.new)

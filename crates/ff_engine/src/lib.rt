@@ -24,7 +24,7 @@ mod stepping;
 pub use fault::NetFault;
 pub use ff_steps::NetUnit;
 pub use net_job::NetJob;
-pub use run::{run_net, runs};
+pub use run::run_net;
 
 #[cfg(test)]
 mod tests;

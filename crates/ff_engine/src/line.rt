@@ -29,7 +29,7 @@ impl<N: Node, R: Wait + Drop> Intake<N> for Line<N, R> {
 
     ghost stands = { λ j l xs front. HasFed N.does j (caller_of l.caller) l.crew xs front };
 
-    ghost halted = { λ j l _ xs front. HasStopped N.does j (caller_of l.caller) l.crew xs front };
+    ghost halted = { λ j l halt xs front. HasStopped N.does j (caller_of l.caller) l.crew halt xs front };
 
     fn take<O: Sink>(&mut self, r: Record, sink: &mut O) -> Result<(), Halt> {
         if self.caller.is_cut() {

@@ -2,11 +2,13 @@
 ghost use Rattle.std.specs.Prelude.{◌≡◌, ◌++◌, sum_by, IfOk, OnOk};
 ghost use Rattle.std.specs.List.{flat_map, list_all};
 ghost use Rattle.ff_rec.specs.Counts.{counted};
+ghost use Rattle.ff_steps.specs.NetUnits.{any_over};
 ghost use Rattle.ff_unit.specs.Units.{end_of};
 ghost use Rattle.ff_engine.specs.Ends.{ends_by_eos};
 
 use ff_port::End;
 use ff_rec::{NoMemory, Records};
+use ff_steps::NetUnit;
 use ff_stream::Report;
 use ff_unit::Unit;
 use std::alloc::Global;
@@ -46,6 +48,13 @@ fn take_rejects<U: Unit>(unit: &mut U, kept: &mut Records) -> Result<(), NoMemor
     Ok(())
 }
 
+/// Whether more tasks came to the master of a wrap than the limit allows.
+pub(crate) fn any_over<N>(units: &Vec<NetUnit<N>>) -> bool
+    ensures { result ≡ any_over units.now.items }
+{
+    units.iter().any(|unit| unit.over())
+}
+
 /// Whether each unit has ended by Eos.
 pub(crate) fn all_ended_by_eos<U: Unit>(units: &Vec<U>) -> bool
     ensures { result ≡ list_all (λ u. ends_by_eos (end_of U.does u)) units.now.items }
@@ -53,8 +62,8 @@ pub(crate) fn all_ended_by_eos<U: Unit>(units: &Vec<U>) -> bool
     units.iter().all(|unit| ends_by_eos(unit.end()))
 }
 
-// Whether a unit has ended by Eos.
-fn ends_by_eos(end: Option<End>) -> bool
+/// Whether a stream or a unit has ended by Eos.
+pub(crate) fn ends_by_eos(end: Option<End>) -> bool
     ensures { result ≡ ends_by_eos end }
 {
     match end {

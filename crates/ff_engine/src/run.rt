@@ -1,8 +1,7 @@
 // A network by threads.
-ghost use Rattle.std.specs.Prelude.{◌≡◌, ◌≤◌, ◌+◌, ℕ, List, false, length, IfOk, OnOk, not};
+ghost use Rattle.std.specs.Prelude.{◌≡◌, ◌≤◌, ◌+◌, List, length, IfOk, OnOk};
 ghost use Rattle.ff_rec.specs.Lines.{Rec};
 ghost use Rattle.ff_net.specs.Counts.{units};
-ghost use Rattle.ff_net.specs.Forms.{has_wrap};
 ghost use Rattle.ff_net.specs.Tree.{tree_of};
 ghost use Rattle.ff_spawn.specs.Counts.{RoseBy};
 ghost use Rattle.ff_stream.specs.Endings.{Told};
@@ -24,15 +23,9 @@ use ff_stream::{Ending, RunFault};
 use std::alloc::Global;
 use std::sync::Wait;
 
-/// Whether a network can be run by threads: it is a leaf, a comb or a pipe of such.
-pub fn runs<N: Node>(checked: &Checked<N>) -> bool
-    ensures { result ≡ not (has_wrap (tree_of checked.now.net)) }
-{
-    !checked.has_wrap()
-}
-
 /// Runs a network over the records of a source, each of its units in a thread of its own, and writes the text of what it
-/// sends to a sink, as the records come. Each ring between two threads holds about `cap` messages. Threads wait by `rt`.
+/// sends to a sink: as the records come, or with a wrap once all units have ended. A wrap may have `limit` tasks. Each ring
+/// between two threads holds about `cap` messages. Threads wait by `rt`.
 pub fn run_net<
     N: Node + Send + 'static,
     R: Wait + Clone + Drop + Send + 'static,
@@ -44,18 +37,17 @@ pub fn run_net<
     alloc: Global,
     checked: &Checked<N>,
     cap: u32,
+    limit: u64,
     keep: bool,
     source: &mut I,
     sink: &mut O,
     spawner: &mut S,
 ) -> Result<Ending, NetFault>
-    requires runs { has_wrap (tree_of checked.now.net) ≡ false }
     requires low { 1 ≤ cap }
     requires high { cap ≤ 4096 }
-    ensures run { (limit : ℕ) → NetRan (job N.does (tree_of checked.now.net) checked.now.version limit keep)
+    ensures run { NetRan (job N.does (tree_of checked.now.net) checked.now.version limit keep)
         (streams I.left I.ended I.faults O.taken source.old source.new sink.old sink.new) result }
-    ensures work { IfOk result (λ ending. (limit : ℕ)
-        → Told (job N.does (tree_of checked.now.net) checked.now.version limit keep)
+    ensures work { IfOk result (λ ending. Told (job N.does (tree_of checked.now.net) checked.now.version limit keep)
         (streams I.left I.ended I.faults O.taken source.old source.new sink.old sink.new)
         (λ (xs : List Rec). RoseBy (units (tree_of checked.now.net) + length xs)
         (S.worked spawner.old) (S.worked spawner.new)) ending) }
@@ -66,7 +58,7 @@ pub fn run_net<
     ensures output_faults { O.faults sink.new ≡ net_output_count (O.faults sink.old) result }
 {
     plans_keep_laws(checked);
-    let Ok(prepared) = prepare(rt, alloc, checked, cap, keep) else {
+    let Ok(prepared) = prepare(rt, alloc, checked, cap, limit, keep) else {
         return Err(NetFault::Run(RunFault::NoMemory));
     };
     match start(rt, alloc, prepared, spawner) {

@@ -1,6 +1,5 @@
 // How the units of a network come into threads.
-ghost use Rattle.std.specs.Prelude.{◌≡◌, ◌≤◌, ◌+◌, [], false, length, map, vec_len, vec_capacity, All, IfOk, OnOk};
-ghost use Rattle.ff_net.specs.Forms.{has_wrap};
+ghost use Rattle.std.specs.Prelude.{◌≡◌, ◌≤◌, ◌+◌, [], length, map, vec_len, vec_capacity, All, IfOk, OnOk};
 ghost use Rattle.ff_net.specs.Tree.{tree_of};
 ghost use Rattle.ff_spawn.specs.Counts.{count_more, denied_after};
 ghost use Rattle.ff_engine.specs.Jobs.{IsFresh};
@@ -32,18 +31,18 @@ pub(crate) fn prepare<N: Node + Send + 'static, R: Wait + Clone + Drop + Send + 
     alloc: Global,
     checked: &Checked<N>,
     cap: u32,
+    limit: u64,
     keep: bool,
 ) -> Result<Prepared<NetUnit<N>, R>, NoMemory>
-    requires runs { has_wrap (tree_of checked.now.net) ≡ false }
     requires low { 1 ≤ cap }
     requires high { cap ≤ 4096 }
-    ensures { IfOk result (λ p. IsPrepared N.does keep (tree_of checked.now.net) (caller_of p.caller)
+    ensures { IfOk result (λ p. IsPrepared N.does limit keep (tree_of checked.now.net) (caller_of p.caller)
         p.jobs.items p.units.items (vec_capacity p.units) p.running.jobs p.running.room
         (length p.board.ins.items) (length p.board.outs.items)) }
 {
     plans_keep_laws(checked);
     plans_are_wired(checked);
-    let units = make_units(alloc, checked, keep)?;
+    let units = make_units(alloc, checked, limit, keep)?;
     let room = Vec::with_capacity(alloc, units.len())?;
     let bells = Bells::new(alloc, units.len())?;
     let (rows, edges) = plan(alloc, checked, cap, Queue::Ring)?.into_parts();
@@ -55,16 +54,34 @@ pub(crate) fn prepare<N: Node + Send + 'static, R: Wait + Clone + Drop + Send + 
         board,
     } = network;
     let waits = rt.clone()?;
-    let running = RunningJobs::with_capacity(alloc, jobs.len())?;
+    let running = running_room(alloc, jobs.len())?;
     let Bells { own, units: others } = bells;
     Ok(Prepared {
-        caller: Caller::new(alloc, first, last, Pause::new(own), others),
+        caller: Caller::new(
+            alloc,
+            first,
+            last,
+            Pause::new(own),
+            others,
+            checked.has_wrap(),
+        ),
         jobs,
         board,
         units: room,
         running,
         rt: waits,
     })
+}
+
+// Room for so many jobs while they run. It is a call of its own, since that jobs may go to another thread is shown for any
+// units that may.
+fn running_room<U: Unit + Send + 'static, R: Wait + Drop + Send + 'static>(
+    alloc: Global,
+    count: usize,
+) -> Result<RunningJobs<NetJob<U, R>>, NoMemory>
+    ensures { IfOk result (λ running. running ≡ record { jobs = []; room = count }) }
+{
+    RunningJobs::with_capacity(alloc, count)
 }
 
 /// Starts all jobs. Where that can't be done, those that were started are ended and joined.

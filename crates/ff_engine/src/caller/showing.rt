@@ -1,5 +1,5 @@
 // What comes over the last ring.
-ghost use Rattle.std.specs.Prelude.{◌≡◌, ◌≢◌, [], None, OnOk};
+ghost use Rattle.std.specs.Prelude.{◌≡◌, ◌≢◌, [], false, None, OnOk};
 ghost use Rattle.ff_engine.specs.Callers.{GoesOn, SameRings, TakesMore};
 ghost use Rattle.ff_engine.specs.Seen.{caller_of};
 
@@ -14,12 +14,11 @@ use std::sync::Wait;
 const MOST_AT_ONCE: u32 = 1024;
 
 impl Caller {
-    /// Shows all that comes up to the end, and writes the rest of the text.
+    /// Shows all that comes up to the end. The rest of the text is left to be written.
     pub(crate) fn drain<R: Wait, O: Sink>(&mut self, rt: &R, sink: &mut O) -> Result<(), Halt>
         ensures put { (caller_of self.new).put ≡ (caller_of self.old).put }
         ensures goes { GoesOn (caller_of self.old) result (caller_of self.new)
             (O.taken sink.old) (O.taken sink.new) (O.faults sink.old) (O.faults sink.new) }
-        ensures written { OnOk result ((caller_of self.new).text ≡ []) }
         ensures end { OnOk result ((caller_of self.new).end ≢ None) }
     {
         for _ in rt.forever() {
@@ -28,16 +27,22 @@ impl Caller {
             }
             self.turn(rt, sink)?;
         }
-        self.write_held(sink)
+        Ok(())
     }
 
-    /// Hands over what waits, shows what comes until all units rest, and writes it.
+    /// Hands over what waits, shows what comes until all units rest, and writes it. Where text is held, nothing is to be
+    /// shown, so that it waits for no unit.
     pub(crate) fn show<R: Wait, O: Sink>(&mut self, rt: &R, sink: &mut O) -> Result<(), Halt>
         ensures put { (caller_of self.new).put ≡ (caller_of self.old).put }
         ensures goes { GoesOn (caller_of self.old) result (caller_of self.new)
             (O.taken sink.old) (O.taken sink.new) (O.faults sink.old) (O.faults sink.new) }
-        ensures written { OnOk result ((caller_of self.new).text ≡ []) }
+        ensures written { OnOk result ((caller_of self.old).holds ≡ false
+            → (caller_of self.new).text ≡ []) }
     {
+        if self.holds {
+            self.first.flush();
+            return Ok(());
+        }
         self.show_till_still(rt, sink)?;
         self.write_held(sink)
     }
@@ -96,8 +101,9 @@ impl Caller {
         Ok(())
     }
 
-    // Writes what is held.
+    // Writes what came.
     fn write_held<O: Sink>(&mut self, sink: &mut O) -> Result<(), Halt>
+        requires { (caller_of self.old).holds ≡ false }
         ensures put { (caller_of self.new).put ≡ (caller_of self.old).put }
         ensures goes { GoesOn (caller_of self.old) result (caller_of self.new)
             (O.taken sink.old) (O.taken sink.new) (O.faults sink.old) (O.faults sink.new) }
@@ -132,9 +138,21 @@ impl Caller {
         };
         if let Msg::Item(r) = m {
             self.text.print(&r)?;
-            self.text.write_full(sink)?;
+            self.write_much(sink)?;
         }
         Ok(true)
+    }
+
+    // Writes what came where it is much, unless it is held.
+    fn write_much<O: Sink>(&mut self, sink: &mut O) -> Result<(), Halt>
+        ensures put { (caller_of self.new).put ≡ (caller_of self.old).put }
+        ensures goes { GoesOn (caller_of self.old) result (caller_of self.new)
+            (O.taken sink.old) (O.taken sink.new) (O.faults sink.old) (O.faults sink.new) }
+    {
+        if self.holds {
+            return Ok(());
+        }
+        Ok(self.text.write_full(sink)?)
     }
 
     /// Takes what comes up to the end. Nothing of it is shown.

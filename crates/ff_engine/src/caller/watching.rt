@@ -9,7 +9,8 @@ use std::alloc::Global;
 use std::sync::{Arc, Wait};
 
 impl Caller {
-    /// Hands over what waits, and answers whether nothing more comes behind what the last ring holds: all units rest.
+    /// Hands over what waits, and answers whether nothing more comes behind what the last ring holds: all units rest. It is
+    /// asked where no text is held, so of networks without a wrap.
     ///
     /// While all of them rest, nothing changes: each waits for its in or its out. If one waited for its out, the ring
     /// behind it would be full, so that the unit behind waited for its out too, and so on to the last ring. So where

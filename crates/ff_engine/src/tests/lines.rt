@@ -3,10 +3,10 @@ ghost use Rattle.std.specs.Prelude.{IfOk};
 ghost use Rattle.ff_rec.specs.Streams.{IsOpen};
 ghost use Rattle.ff_ring.specs.Ends.{put_of};
 
+use crate::NetJob;
 use crate::prepared::Prepared;
 use crate::report::{all_ended_by_eos, report_of};
 use crate::starting::prepare;
-use crate::{NetJob, runs};
 use ff_net::{Checked, Net, Version, check};
 use ff_node::Class;
 use ff_port::{Inbox, Msg, Outbox, Put};
@@ -63,9 +63,8 @@ fn a_pipe_comes_to_its_end(rt: HostRuntime) -> Result<(), Fail> {
     let alloc = rt.alloc();
     for count in [2, 5] {
         let net = silent_pipe(alloc, count)?;
-        assert!(rt; runs(&net));
         let mut spawner = Threads::new(rt.clone()?);
-        let prepared = prepare(&rt, alloc, &net, 4, true)?;
+        let prepared = prepare(&rt, alloc, &net, 4, 1, true)?;
         let Prepared {
             caller,
             jobs,
@@ -77,7 +76,7 @@ fn a_pipe_comes_to_its_end(rt: HostRuntime) -> Result<(), Fail> {
         // No job was started.
         running.finish_all(&mut spawner, &mut Vec::new(alloc));
         assert_eq!(rt; jobs.len(), count);
-        let (mut first, mut last) = caller.into_ends();
+        let (mut first, mut last, _) = caller.into_parts();
         assert!(rt; puts_record(alloc, &mut first)?);
         assert!(rt; matches!(first.try_put(Msg::Eos), Put::Done));
         let mut units = run_all(alloc, jobs)?;

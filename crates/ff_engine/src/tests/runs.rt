@@ -1,9 +1,9 @@
 // Networks by threads.
 use super::meeting::{Flags, Meets, Place};
-use crate::{NetFault, run_net, runs};
+use crate::{NetFault, run_net};
 use ff_io::{MemSink, MemSource, Source};
-use ff_net::{Checked, Net, Route, Sched, Version, check};
-use ff_rec::LineFault;
+use ff_net::{Checked, Net, Route, Sched, Test, Version, check};
+use ff_rec::{Cmp, LineFault};
 use ff_spawn::{RefuseAt, Threads};
 use ff_stream::{Ending, RunFault, Stop};
 use ff_test_nodes::Gate;
@@ -72,7 +72,6 @@ fn compare<R: thread::Threads + Wait + Abort + Clone + Drop + Send + 'static>(
     cap: u32,
     case: Case,
 ) -> Result<(), Fail> {
-    assert!(rt; runs(net));
     let bytes = Vec::from_slice(alloc, case.input)?;
     let mut source = MemSource::new(bytes, 2, vec![in alloc; case.fails]?);
     let mut sink = MemSink::new(alloc, case.budget, Vec::new(alloc))?;
@@ -83,6 +82,7 @@ fn compare<R: thread::Threads + Wait + Abort + Clone + Drop + Send + 'static>(
         alloc,
         net,
         cap,
+        1,
         true,
         &mut source,
         &mut sink,
@@ -137,7 +137,6 @@ fn runs_of_every_end(rt: HostRuntime) -> Result<(), Fail> {
 fn refused_starts(rt: HostRuntime) -> Result<(), Fail> {
     let alloc = rt.alloc();
     let net = checked(gates(alloc)?)?;
-    assert!(rt; runs(&net));
     for refused in [1, 2, 3, 4] {
         let mut source = MemSource::new(Vec::from_slice(alloc, b"1\n")?, 2, Vec::new(alloc));
         let mut sink = MemSink::new(alloc, 99, Vec::new(alloc))?;
@@ -148,6 +147,7 @@ fn refused_starts(rt: HostRuntime) -> Result<(), Fail> {
             alloc,
             &net,
             2,
+            1,
             true,
             &mut source,
             &mut sink,
@@ -175,7 +175,6 @@ fn meet_line(rt: HostRuntime) -> Result<(), Fail> {
         }))?;
     }
     let net = checked(Net::Pipe(parts))?;
-    assert!(rt; runs(&net));
     let mut source = MemSource::new(Vec::from_slice(alloc, b"1\n2\n")?, 64, Vec::new(alloc));
     let mut sink = MemSink::new(alloc, 99, Vec::new(alloc))?;
     let mut spawner = Threads::new(rt.clone()?);
@@ -184,6 +183,7 @@ fn meet_line(rt: HostRuntime) -> Result<(), Fail> {
         alloc,
         &net,
         512,
+        1,
         true,
         &mut source,
         &mut sink,
@@ -214,7 +214,7 @@ fn meets(place: Place, flags: &Arc<Flags>) -> Result<Net<Meets>, Fail> {
     }))
 }
 
-// Copies of a node: in a farm, in an ordered farm, and in the left set of an all-to-all.
+// Copies of a node: in a farm, in an ordered farm, in a wrap that nothing goes back in, and in the left set of an all-to-all.
 fn copies(alloc: Global, flags: &Arc<Flags>, form: u32) -> Result<Net<Meets>, Fail> {
     let worker = Box::new(alloc, meets(Place::Worker, flags)?)?;
     Ok(match form {
@@ -227,6 +227,15 @@ fn copies(alloc: Global, flags: &Arc<Flags>, form: u32) -> Result<Net<Meets>, Fa
             workers: 2,
             sched: Sched::Rr,
             worker,
+        },
+        2 => Net::Wrap {
+            workers: 2,
+            worker,
+            test: Test {
+                field: 1,
+                cmp: Cmp::Gt,
+                value: 2,
+            },
         },
         _ => Net::A2a {
             left: 2,
@@ -242,10 +251,9 @@ fn copies(alloc: Global, flags: &Arc<Flags>, form: u32) -> Result<Net<Meets>, Fa
 #[test]
 fn meet_copies(rt: HostRuntime) -> Result<(), Fail> {
     let alloc = rt.alloc();
-    for (form, units) in [(0, 4), (1, 4), (2, 8)] {
+    for (form, units) in [(0, 4), (1, 4), (2, 3), (3, 8)] {
         let flags = Arc::new(alloc, Flags::new())?;
         let net = checked(copies(alloc, &flags, form)?)?;
-        assert!(rt; runs(&net));
         let input = Vec::from_slice(alloc, b"1\n2\n")?;
         let mut source = MemSource::new(input, 64, Vec::new(alloc));
         let mut sink = MemSink::new(alloc, 99, Vec::new(alloc))?;
@@ -255,6 +263,7 @@ fn meet_copies(rt: HostRuntime) -> Result<(), Fail> {
             alloc,
             &net,
             512,
+            1000,
             true,
             &mut source,
             &mut sink,

@@ -5,7 +5,7 @@ ghost use Rattle.ff_io.specs.Bytes.{is_end};
 ghost use Rattle.ff_io.specs.Faults.{HasCause, count_after};
 
 use super::runs::{CAPS, DONE, checked, gates, summary};
-use crate::{run_net, runs};
+use crate::run_net;
 use crossbeam_utils::atomic::AtomicCell;
 use ff_io::{Failed, MemSink, MemSource, Sink, Source};
 use ff_spawn::Threads;
@@ -64,7 +64,6 @@ impl<S: Source> Source for Noting<S> {
 fn results_are_shown_before_the_next_read(rt: HostRuntime) -> Result<(), Fail> {
     let alloc = rt.alloc();
     let net = checked(gates(alloc)?)?;
-    assert!(rt; runs(&net));
     for cap in CAPS {
         let taken = Arc::new(alloc, AtomicCell::new(0))?;
         let bytes = Vec::from_slice(alloc, b"1\n2\n3\n4\n5\n6\n7\n8\n")?;
@@ -86,6 +85,7 @@ fn results_are_shown_before_the_next_read(rt: HostRuntime) -> Result<(), Fail> {
             alloc,
             &net,
             cap,
+            1,
             true,
             &mut source,
             &mut sink,

@@ -53,9 +53,9 @@ returns-in-Err-clause-run g c =
     rw c.into.ensures
     (λ j is fed.
     let came = c.in-Err.ensures.err j is fed in
-    Ran-given_up (λ j l xs front. HasFed b j (caller_of l.caller) l.crew xs front) (λ j l halt xs front. HasStopped b j (caller_of l.caller) l.crew xs front)
+    Ran-given_up (λ j l xs front. HasFed b j (caller_of l.caller) l.crew xs front) (λ j l halt xs front. HasStopped b j (caller_of l.caller) l.crew halt xs front)
     j c.in-Err.halt c.take_stream.new.work s came
-    (IsOpen-left (λ j l xs front. HasFed b j (caller_of l.caller) l.crew xs front) (λ j l halt xs front. HasStopped b j (caller_of l.caller) l.crew xs front)
+    (IsOpen-left (λ j l xs front. HasFed b j (caller_of l.caller) l.crew xs front) (λ j l halt xs front. HasStopped b j (caller_of l.caller) l.crew halt xs front)
     c.take_stream.new.work
     (λ j xs front at. c.give_up.ensures.opens j NoMemory xs front (HasStopped-fed b j (caller_of c.take_stream.new.work.caller) c.take_stream.new.work.crew xs front at))
     c.give_up.ensures.opens

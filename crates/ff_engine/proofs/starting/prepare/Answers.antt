@@ -1,4 +1,6 @@
 -- Each unit is opened, and the plan is wired.
+use denote.Param.Send.{sendable}
+use Rattle.std.proofs.Crossing.{crosses}
 use Rattle.std.proofs.Common.{◌≡◌, ◌≤◌, ◌∙◌, [], ◌∷◌, length, sym, ap, subst, arith}
 use Rattle.std.proofs.lemmas.List.{length-map}
 use Rattle.std.specs.List.{All, AllZip}
@@ -16,7 +18,11 @@ use Rattle.ff_engine.specs.Lines.{IsWired, Linked}
 use Rattle.ff_engine.specs.Networks.{UnitOf}
 use Rattle.ff_engine.proofs.Opened.{IsOpened-units}
 use Rattle.ff_engine.proofs.PlanEdges.{high-caps, length-edges, low-caps}
+use Rattle.ff_engine.proofs.UnitSent.{IsSend-unit}
 use Rattle.ff_engine.proofs.starting.prepare.Goals as goal
+
+pub running_room-requires-send-U : goal.running_room-requires-send-U
+running_room-requires-send-U g c κs within = let u = IsSend-unit _ c.type_bounds.send-N in search (sendable, crosses) depth 20
 
 pub link_units-requires-clause-opened : goal.link_units-requires-clause-opened
 link_units-requires-clause-opened g c =
@@ -26,7 +32,7 @@ link_units-requires-clause-opened g c =
     let rows : c.into_parts-rows.result.0.items ≡ rows_of t = c.into_parts-rows.ensures.units ∙ ap (λ (p : Plan). p.units) c.in_ok-plan.ensures in
     subst (λ rs. AllZip (λ r u. IsOpened (net_does b) r u) rs c.in_ok-units.units.items) (sym rows)
     (subst (λ us. AllZip (λ r u. IsOpened (net_does b) r u) (rows_of t) us) (sym c.in_ok-units.ensures.units)
-    (IsOpened-units b c.args.keep laws.kind t c.requires.runs laws.good))
+    (IsOpened-units b c.args.limit c.args.keep laws.kind t laws.good))
 
 pub link_units-requires-clause-wired : goal.link_units-requires-clause-wired
 link_units-requires-clause-wired g c =
@@ -62,6 +68,7 @@ returns g c =
       put = ap (λ (s : CallerState). s.put) c.new-3.ensures ∙ made.put;
       got = ap (λ (s : CallerState). s.got) c.new-3.ensures ∙ made.got;
       text = ap (λ (s : CallerState). s.text) c.new-3.ensures;
+      holds = ap (λ (s : CallerState). s.holds) c.new-3.ensures ∙ c.has_wrap.ensures;
       linked = subst (λ (s : CallerState). Linked s.writes jobs s.reads) (sym c.new-3.ensures) made.linked;
       units_are = made.units ∙ c.in_ok-units.ensures.units;
       rows_are = made.rows ∙ rows;

@@ -17,19 +17,20 @@ returns-in-None-try_feed-clause-goes g c =
     let rings : SameRings (caller_of c.args.self.now) (caller_of c.turn.new.self) =
     SameRings-trans (caller_of c.args.self.now) (caller_of c.loop.self) (caller_of c.turn.new.self) c.loop.invariant.rings c.in_ok-turn.ensures.goes.rings in
     record {
-      moves = Moves-trans (caller_of c.args.self.now) (caller_of c.turn.new.self) (caller_of c.try_feed.new.self) _ _ _
-          (Moves-trans (caller_of c.args.self.now) (caller_of c.loop.self) (caller_of c.turn.new.self) _ _ _ c.loop.invariant.moves c.in_ok-turn.ensures.goes.moves)
+      moves = Moves-trans (caller_of c.args.self.now) (caller_of c.turn.new.self) (caller_of c.try_feed.new.self) _ _ _ rings.holds
+          (Moves-trans (caller_of c.args.self.now) (caller_of c.loop.self) (caller_of c.turn.new.self) _ _ _ c.loop.invariant.rings.holds c.loop.invariant.moves c.in_ok-turn.ensures.goes.moves)
           (Moves-fed (caller_of c.turn.new.self) (caller_of c.try_feed.new.self) c.loop.m _ c.in-None-try_feed.ensures);
       breaks = tt;
-      rings = subst (λ s. SameRings (caller_of c.args.self.now) s) (sym c.in-None-try_feed.ensures) (record { writes = rings.writes; reads = rings.reads });
+      rings = subst (λ s. SameRings (caller_of c.args.self.now) s) (sym c.in-None-try_feed.ensures) (record { writes = rings.writes; reads = rings.reads; holds = rings.holds });
       counts = c.in_ok-turn.ensures.goes.counts ∙ c.loop.invariant.counts;
+      starves = tt;
     }
 
 pub loop-preserved : goal.loop-preserved
 loop-preserved g c =
     let same = c.in-Some-try_feed.ensures.1 in
     let moves : Moves (caller_of c.args.self.now) (caller_of c.turn.new.self) (g.O.Sink.taken c.args.sink.now) (g.O.Sink.taken c.turn.new.sink) =
-    Moves-trans (caller_of c.args.self.now) (caller_of c.loop.self) (caller_of c.turn.new.self) _ _ _ c.loop.invariant.moves c.in_ok-turn.ensures.goes.moves in
+    Moves-trans (caller_of c.args.self.now) (caller_of c.loop.self) (caller_of c.turn.new.self) _ _ _ c.loop.invariant.rings.holds c.loop.invariant.moves c.in_ok-turn.ensures.goes.moves in
     let rings : SameRings (caller_of c.args.self.now) (caller_of c.turn.new.self) =
     SameRings-trans (caller_of c.args.self.now) (caller_of c.loop.self) (caller_of c.turn.new.self) c.loop.invariant.rings c.in_ok-turn.ensures.goes.rings in
     record {

@@ -1,5 +1,5 @@
 -- One look more.
-use Rattle.std.proofs.Common.{sym, ap, ◌∙◌, subst, Err}
+use Rattle.std.proofs.Common.{◌≡◌, sym, ap, ◌∙◌, subst, Err}
 use Rattle.std.proofs.lemmas.Result.{err_from_is_err_and}
 use Rattle.ff_engine.specs.Callers.{Moves, SameRings}
 use Rattle.ff_engine.specs.Seen.{caller_of}
@@ -12,6 +12,7 @@ loop-preserved g c =
     record {
       put = c.in_ok-show_some.ensures.put ∙ ap (λ s. s.put) (sym still) ∙ c.loop.invariant.put;
       moves = Moves-trans (caller_of c.args.self.now) (caller_of c.is_still-still.new.self) (caller_of c.show_some.new.self) _ _ _
+          (subst (λ s. s.holds ≡ (caller_of c.args.self.now).holds) still c.loop.invariant.rings.holds)
           (subst (λ s. Moves (caller_of c.args.self.now) s (g.O.Sink.taken c.args.sink.now) (g.O.Sink.taken c.loop.sink)) still c.loop.invariant.moves)
           c.in_ok-show_some.ensures.goes.moves;
       rings = SameRings-trans (caller_of c.args.self.now) (caller_of c.is_still-still.new.self) (caller_of c.show_some.new.self)
@@ -33,10 +34,12 @@ returns-then-branch-clause-goes g c =
     let still = sym c.is_still-still.ensures in
     record {
       moves = Moves-trans (caller_of c.args.self.now) (caller_of c.is_still-still.new.self) (caller_of c.show_some.new.self) _ _ _
+          (subst (λ s. s.holds ≡ (caller_of c.args.self.now).holds) still c.loop.invariant.rings.holds)
           (subst (λ s. Moves (caller_of c.args.self.now) s (g.O.Sink.taken c.args.sink.now) (g.O.Sink.taken c.loop.sink)) still c.loop.invariant.moves)
           c.in_ok-show_some.ensures.goes.moves;
       breaks = tt;
       rings = SameRings-trans (caller_of c.args.self.now) (caller_of c.is_still-still.new.self) (caller_of c.show_some.new.self)
           (subst (λ s. SameRings (caller_of c.args.self.now) s) still c.loop.invariant.rings) c.in_ok-show_some.ensures.goes.rings;
       counts = c.in_ok-show_some.ensures.goes.counts ∙ c.loop.invariant.counts;
+      starves = tt;
     }

@@ -8,7 +8,7 @@ use Rattle.ff_engine.proofs.caller.Caller.take_ready.Goals as goal
 pub loop-taken-preserved : goal.loop-taken-preserved
 loop-taken-preserved g c = record {
   put = c.in_ok-receive.ensures.put ∙ c.loop-taken.invariant.put;
-  moves = Moves-trans (caller_of c.args.self.now) (caller_of c.loop-taken.self) (caller_of c.receive.new.self) _ _ _ c.loop-taken.invariant.moves c.in_ok-receive.ensures.goes.moves;
+  moves = Moves-trans (caller_of c.args.self.now) (caller_of c.loop-taken.self) (caller_of c.receive.new.self) _ _ _ c.loop-taken.invariant.rings.holds c.loop-taken.invariant.moves c.in_ok-receive.ensures.goes.moves;
   rings = SameRings-trans (caller_of c.args.self.now) (caller_of c.loop-taken.self) (caller_of c.receive.new.self) c.loop-taken.invariant.rings c.in_ok-receive.ensures.goes.rings;
   counts = c.in_ok-receive.ensures.goes.counts ∙ c.loop-taken.invariant.counts;
 }
@@ -21,8 +21,9 @@ returns-in_err-receive-clause-goes g c =
 
 pub returns-then-not-branch-clause-goes : goal.returns-then-not-branch-clause-goes
 returns-then-not-branch-clause-goes g c = record {
-  moves = Moves-trans (caller_of c.args.self.now) (caller_of c.loop-taken.self) (caller_of c.receive.new.self) _ _ _ c.loop-taken.invariant.moves c.in_ok-receive.ensures.goes.moves;
+  moves = Moves-trans (caller_of c.args.self.now) (caller_of c.loop-taken.self) (caller_of c.receive.new.self) _ _ _ c.loop-taken.invariant.rings.holds c.loop-taken.invariant.moves c.in_ok-receive.ensures.goes.moves;
   breaks = tt;
   rings = SameRings-trans (caller_of c.args.self.now) (caller_of c.loop-taken.self) (caller_of c.receive.new.self) c.loop-taken.invariant.rings c.in_ok-receive.ensures.goes.rings;
   counts = c.in_ok-receive.ensures.goes.counts ∙ c.loop-taken.invariant.counts;
+  starves = tt;
 }

@@ -15,8 +15,8 @@ returns-clause-opens g c =
     let b = g.N.Node.does in
     λ j halt xs front at.
     IsOpen-stopped b j halt (caller_of c.args.self.caller) (caller_of c.stop.new.self) c.args.self.crew xs front at
-    (put_of c.into_ends-first.result.0) c.join.result.items (got_of c.into_ends-first.result.1) _ _ c.join.ensures.joined
-    c.into_ends-first.ensures.put c.into_ends-first.ensures.got c.stop.ensures.put c.stop.ensures.more
+    (put_of c.into_parts-first.result.0) c.join.result.items (got_of c.into_parts-first.result.1) _ _ c.join.ensures.joined
+    c.into_parts-first.ensures.put c.into_parts-first.ensures.got c.stop.ensures.put c.stop.ensures.more
 
 pub join-requires-send-U : goal.join-requires-send-U
 join-requires-send-U g c κs within = let u = IsSend-unit _ c.type_bounds.send-N in search (sendable, crosses) depth 20
