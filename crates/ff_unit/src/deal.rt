@@ -7,9 +7,9 @@ mod steps;
 mod takes;
 
 use crate::{Dealing, Unit};
+pub use behind::Last;
 use ff_port::{End, Ports, Step};
 use ff_rec::Record;
-pub use behind::Last;
 pub use held::{Held, HeldPut};
 use std::marker::Model;
 

@@ -19,14 +19,14 @@ returns-in-Ok-clause-summary g c = λ limit w.
     let checked = c.in_ok-checked.checked in
     let ran = c.run_net-answer.new in
     c.summarize.ensures ∙ ap (λ bytes. summary_of c.args.n (records bytes)) c.taken.ensures
-    ∙ summary_of-run (tree_of checked.net) checked.version limit c.args.workers c.args.n c.in_ok-source.source ran.source c.new-sink.result ran.sink c.in-Ok.field-0
-    c.requires.records c.in_ok-checked.ensures c.in_ok-source.ensures c.new-sink.ensures (c.in-Ok.ensures.run limit) c.in-Ok.ensures.input_faults w
+    ∙ summary_of-run (tree_of checked.net) checked.version 0 c.args.workers c.args.n c.in_ok-source.source ran.source c.new-sink.result ran.sink c.in-Ok.field-0
+    c.requires.records c.in_ok-checked.ensures c.in_ok-source.ensures c.new-sink.ensures c.in-Ok.ensures.run c.in-Ok.ensures.input_faults w
 
 pub returns-in-Ok-clause-work : goal.returns-in-Ok-clause-work
 returns-in-Ok-clause-work g c =
     let checked = c.in_ok-checked.checked in
     let ran = c.run_net-answer.new in
-    let work = c.in-Ok.ensures.work 0 in
+    let work = c.in-Ok.ensures.work in
     let all = length-run (tree_of checked.net) checked.version 0 c.args.workers c.args.n c.in_ok-source.source ran.source c.new-sink.result ran.sink c.in-Ok.field-0
     c.requires.records c.in_ok-checked.ensures c.in_ok-source.ensures c.new-sink.ensures work.run c.in-Ok.ensures.input_faults in
     subst (λ k. RoseBy k (g.S.Refusals.worked c.args.spawner.now) (g.S.Refusals.worked ran.spawner)) (ap₂ (λ a b. a + b) (ap units c.in_ok-checked.ensures) all) work.told
@@ -37,7 +37,7 @@ told-requires g c = λ tasks.
     let ran = c.run_net-answer.new in
     let streams = soak_streams c.in_ok-source.source ran.source c.new-sink.result ran.sink in
     not_overrun (tree_of checked.net) checked.version 0 c.args.workers streams c.in_ok-checked.ensures
-    (subst (λ fault. NetRan (job op_node (tree_of checked.net) checked.version 0 false) streams (Err fault)) tasks (c.in-Err.ensures.run 0))
+    (subst (λ fault. NetRan (job op_node (tree_of checked.net) checked.version 0 false) streams (Err fault)) tasks c.in-Err.ensures.run)
 
 pub returns-clause-refusals : goal.returns-clause-refusals
 returns-clause-refusals g c =
