@@ -1,5 +1,5 @@
 -- How much the jobs of a network handled that have all ended with their ins.
-use Rattle.std.proofs.Common.{◌≡◌, ℕ, ◌+◌, ◌-◌, ◌≤◌, List, [], ◌∷◌, ◌++◌, length, map, sum_by, refl, sym, ap, ◌∙◌, subst, arith}
+use Rattle.std.proofs.Common.{◌≡◌, ℕ, ◌+◌, ◌-◌, ◌≤◌, List, [], ◌∷◌, ◌++◌, length, map, sum_by, refl, sym, ap, ◌∙◌, arith}
 use Rattle.std.proofs.lemmas.List.{length-append, length-map}
 use Rattle.std.proofs.lemmas.List.Sums.{sum_by-cons}
 use Rattle.std.proofs.lemmas.List.Elements.{All-head, All-tail}
@@ -29,7 +29,7 @@ use Rattle.ff_steps.proofs.OverEnds.{HasEndedWell}
 use Rattle.ff_steps.proofs.Ports.{each-port}
 use Rattle.ff_steps.proofs.Shapes.{IsMasterOf, IsShaped, HasShape, shapes-lay}
 use Rattle.ff_steps.proofs.MessageLists.{closed-front}
-use Rattle.ff_unit.specs.Units.{Doing, IsUnit, Ran}
+use Rattle.ff_unit.specs.Units.{Doing, IsUnit}
 use Rattle.ff_engine.specs.Jobs.{JobState, handled}
 use Rattle.ff_engine.specs.Lines.{HasMoved}
 use Rattle.ff_engine.specs.Networks.{HasLaws, UnitOf}

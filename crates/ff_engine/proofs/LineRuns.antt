@@ -11,7 +11,7 @@ use Rattle.ff_rec.specs.Streams.{items, carried, closed, unaborted, GoesOn}
 use Rattle.ff_rec.specs.declared.msg.Msg.TheVariants.{Eos as EosMsg, Abort as AbortMsg}
 use Rattle.ff_rec.specs.Weights.{Same}
 use Rattle.ff_rec.proofs.WeightLaws.{Same-trans, Same-sym, Same-≡}
-use Rattle.ff_node.specs.Behaviour.{Behaviour, KeepsKind}
+use Rattle.ff_node.specs.Behaviour.{Behaviour}
 use Rattle.ff_node.specs.Runs.{Message}
 use Rattle.ff_port.specs.declared.answers.End.{End}
 use Rattle.ff_port.specs.declared.answers.End.TheVariants.{Eos, Abort, Memory}

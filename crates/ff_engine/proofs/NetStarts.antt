@@ -1,14 +1,13 @@
 -- From a network that was checked to the jobs that stand for it.
-use Rattle.std.proofs.Common.{◌≡◌, ℕ, Bool, List, [], ◌∷◌, length, map, refl, sym, ap, ◌∙◌, subst}
+use Rattle.std.proofs.Common.{◌≡◌, ℕ, Bool, List, [], length, refl, sym, ap, ◌∙◌, subst}
 use Rattle.std.specs.Prelude.{Err}
 use Rattle.std.proofs.lemmas.List.{length-map}
 use Rattle.ff_rec.specs.Lines.{text}
 use Rattle.ff_rec.specs.Streams.{items}
-use Rattle.ff_node.specs.Behaviour.{Behaviour, KeepsKind}
+use Rattle.ff_node.specs.Behaviour.{Behaviour}
 use Rattle.ff_net.specs.Counts.{units}
 use Rattle.ff_net.specs.Tree.{Tree}
 use Rattle.ff_net.specs.declared.net.Version.{Version}
-use Rattle.ff_plan.specs.Plans.{rows_of}
 use Rattle.ff_plan.proofs.LaidUnits.{length-rows_of}
 use Rattle.ff_spawn.specs.declared.fault.Denial.{Denial}
 use Rattle.ff_spawn.specs.declared.fault.Denial.TheVariants.{Refused, NoMemory}

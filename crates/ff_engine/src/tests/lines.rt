@@ -1,5 +1,5 @@
 // Jobs over rings on one thread.
-ghost use Rattle.std.specs.Prelude.{IfOk};
+ghost use Rattle.std.specs.Prelude.{◌≡◌, [], IfOk};
 ghost use Rattle.ff_rec.specs.Streams.{IsOpen};
 ghost use Rattle.ff_ring.specs.Ends.{put_of};
 
@@ -12,7 +12,7 @@ use ff_node::Class;
 use ff_port::{Inbox, Msg, Outbox, Put};
 use ff_rec::{Field, NoMemory, Record};
 use ff_ring::RingOut;
-use ff_spawn::{Job, Threads};
+use ff_spawn::{Job, RunningJobs, Spawner, Threads};
 use ff_test_nodes::Silent;
 use ff_unit::Unit;
 use std::alloc::Global;
@@ -48,6 +48,17 @@ fn run_all<U: Unit, R: Wait + Drop>(
     Ok(units)
 }
 
+// Ends a list in which no job runs.
+fn end_idle<U: Unit + Send + 'static, R: Wait + Drop + Send + 'static, S: Spawner<NetJob<U, R>>>(
+    alloc: Global,
+    running: RunningJobs<NetJob<U, R>>,
+    by: &mut S,
+)
+    requires { running.jobs ≡ [] }
+{
+    running.finish_all(by, &mut Vec::new(alloc));
+}
+
 // Puts a record of one field, and tells whether there was room.
 fn puts_record(alloc: Global, out: &mut RingOut<Record>) -> Result<bool, Fail>
     requires { IsOpen (put_of out.old) }
@@ -73,8 +84,7 @@ fn a_pipe_comes_to_its_end(rt: HostRuntime) -> Result<(), Fail> {
             running,
             rt: _,
         } = prepared;
-        // No job was started.
-        running.finish_all(&mut spawner, &mut Vec::new(alloc));
+        end_idle(alloc, running, &mut spawner);
         assert_eq!(rt; jobs.len(), count);
         let (mut first, mut last, _) = caller.into_parts();
         assert!(rt; puts_record(alloc, &mut first)?);

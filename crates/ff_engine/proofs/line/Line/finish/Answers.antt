@@ -1,7 +1,7 @@
 -- The stream came to its end and the text was written, or it broke off.
 use denote.Param.Send.{sendable}
 use Rattle.std.proofs.Crossing.{crosses}
-use Rattle.std.proofs.Common.{◌≡◌, ℕ, List, Ok, Err, [], ap, ◌∙◌, subst}
+use Rattle.std.proofs.Common.{ℕ, List, Ok, Err, [], ap, ◌∙◌, subst}
 use Rattle.std.proofs.lemmas.Result.{err_from_is_err_and}
 use Rattle.ff_rec.specs.Counts.{more}
 use Rattle.ff_ring.specs.Ends.{got_of, put_of}
