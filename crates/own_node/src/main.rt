@@ -8,6 +8,7 @@ mod own;
 mod run;
 mod widest;
 
+use crate::network::own_network;
 use crate::run::widest_line;
 use ff_io::{StdinSource, StdoutSink};
 use ff_spawn::Threads;
@@ -22,10 +23,14 @@ fn main(rt: HostRuntime) -> ExitCode {
     let Ok(threads) = rt.clone() else {
         return ExitCode::from(2);
     };
+    let Ok(checked) = own_network(alloc) else {
+        return ExitCode::from(2);
+    };
     let mut source = StdinSource::new(rt.stdin());
     let mut sink = StdoutSink::new(rt.stdout());
     let mut spawner = Threads::new(threads);
-    match widest_line(&rt, alloc, &mut source, &mut sink, &mut spawner) {
+    let answer = widest_line(&rt, alloc, &checked, &mut source, &mut sink, &mut spawner);
+    match answer {
         Ok(ending) => match ending.stop {
             Stop::End => ExitCode::from(0),
             Stop::Read | Stop::Line(_) => ExitCode::from(1),

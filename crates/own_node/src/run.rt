@@ -1,16 +1,16 @@
 // The network by threads, over any source and any sink.
-ghost use Rattle.std.specs.Prelude.{ℕ, false};
+ghost use Rattle.std.specs.Prelude.{◌≡◌, ℕ, false};
 ghost use Rattle.ff_engine.specs.Runs.{NetRan};
+ghost use Rattle.ff_net.specs.Tree.{tree_of};
 ghost use Rattle.ff_stream.specs.Jobs.{job};
 ghost use Rattle.ff_stream.specs.Streams.{streams};
 ghost use Rattle.own_node.specs.Network.{own_net};
 ghost use Rattle.own_node.specs.Own.{own_node};
 
-use crate::network::own_network;
 use crate::own::Own;
 use ff_engine::{NetFault, NetJob, NetUnit, run_net};
 use ff_io::{Sink, Source};
-use ff_net::Version;
+use ff_net::{Checked, Version};
 use ff_spawn::Spawner;
 use ff_stream::Ending;
 use std::alloc::Global;
@@ -22,10 +22,18 @@ pub fn widest_line<
     I: Source,
     O: Sink,
     S: Spawner<NetJob<NetUnit<Own>, R>>,
->(rt: &R, alloc: Global, source: &mut I, sink: &mut O, spawner: &mut S) -> Result<Ending, NetFault>
+>(
+    rt: &R,
+    alloc: Global,
+    checked: &Checked<Own>,
+    source: &mut I,
+    sink: &mut O,
+    spawner: &mut S,
+) -> Result<Ending, NetFault>
+    requires net { tree_of checked.now.net ≡ own_net }
+    requires version { checked.now.version ≡ Version.Two }
     ensures { (limit : ℕ) → NetRan (job own_node own_net Version.Two limit false)
         (streams I.left I.ended I.faults O.taken source.old source.new sink.old sink.new) result }
 {
-    let checked = own_network(alloc)?;
-    run_net(rt, alloc, &checked, 512, false, source, sink, spawner)
+    run_net(rt, alloc, checked, 512, false, source, sink, spawner)
 }

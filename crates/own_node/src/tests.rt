@@ -1,4 +1,5 @@
 // What no clause says: that memory and threads are there, so that an answer comes.
+use crate::network::own_network;
 use crate::run::widest_line;
 use ff_io::{MemSink, MemSource};
 use ff_spawn::Threads;
@@ -14,13 +15,15 @@ const TABLES: [(&[u8], &[u8], u64); 3] = [
 
 #[test]
 fn the_widest_line_of_some_tables(rt: HostRuntime) -> Result<(), Fail> {
+    let alloc = rt.alloc();
+    let checked = own_network(alloc)?;
     for (input, wanted, rejected) in TABLES {
-        let alloc = rt.alloc();
         let bytes = Vec::from_slice(alloc, input)?;
         let mut source = MemSource::new(bytes, 64, Vec::new(alloc));
         let mut sink = MemSink::new(alloc, 99, Vec::new(alloc))?;
         let mut spawner = Threads::new(rt.clone()?);
-        let Ok(ending) = widest_line(&rt, alloc, &mut source, &mut sink, &mut spawner) else {
+        let answer = widest_line(&rt, alloc, &checked, &mut source, &mut sink, &mut spawner);
+        let Ok(ending) = answer else {
             return Err(Fail::from("the run broke off"));
         };
         assert!(rt; ending.stop == Stop::End);

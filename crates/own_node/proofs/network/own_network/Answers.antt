@@ -11,5 +11,5 @@ keeps_rules = refl
 
 pub unreachable-requires : goal.unreachable-requires
 unreachable-requires c =
-    let none = c.in-Err.ensures.fault ∙ ap (first_fault own_node Two) c.in_ok-call.ensures ∙ keeps_rules in
+    let none = c.in-Err.ensures.fault ∙ ap (first_fault own_node Two) c.in_ok-unchecked.ensures ∙ keeps_rules in
     absurd (cc)
