@@ -1,5 +1,5 @@
 // The network by threads, over any source and any sink.
-ghost use Rattle.std.specs.Prelude.{◌≡◌, ℕ, false};
+ghost use Rattle.std.specs.Prelude.{◌≡◌, false};
 ghost use Rattle.ff_engine.specs.Runs.{NetRan};
 ghost use Rattle.ff_net.specs.Tree.{tree_of};
 ghost use Rattle.ff_stream.specs.Jobs.{job};
@@ -32,8 +32,9 @@ pub fn widest_line<
 ) -> Result<Ending, NetFault>
     requires net { tree_of checked.now.net ≡ own_net }
     requires version { checked.now.version ≡ Version.Two }
-    ensures { (limit : ℕ) → NetRan (job own_node own_net Version.Two limit false)
+    ensures { NetRan (job own_node own_net Version.Two 0 false)
         (streams I.left I.ended I.faults O.taken source.old source.new sink.old sink.new) result }
 {
-    run_net(rt, alloc, checked, 512, false, source, sink, spawner)
+    // No wrap stands in it, and so it has no tasks.
+    run_net(rt, alloc, checked, 512, 0, false, source, sink, spawner)
 }
