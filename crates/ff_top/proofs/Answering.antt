@@ -26,14 +26,13 @@ Answered-files j threads before now told n (Err fault) r = r
 
 -- a run by threads, with what it tells of them whatever wraps may have
 pub Answered-threads : (t : Tree OpState) (v : Version) (keep : Bool) (tasks : ℕ) (threads : Bool) (before now : Outside) (answer : Result Ending NetFault)
-    → ((limit : ℕ) → NetRan (job op_node t v limit keep) (streams_of before now) answer)
-    → IfOk answer (λ ending. (limit : ℕ) → Told (job op_node t v limit keep) (streams_of before now)
+    → NetRan (job op_node t v tasks keep) (streams_of before now) answer
+    → IfOk answer (λ ending. Told (job op_node t v tasks keep) (streams_of before now)
     (λ (xs : List Rec). RoseBy (units t + length xs) before.worked now.worked) ending)
     → OnOk answer (RoseBy (units t) before.starts now.starts) → Answered (job op_node t v tasks keep) threads before now answer
 Answered-threads t v keep tasks threads before now (Ok ending) ran work starts =
-    let told = work tasks in
-    record { run = told.run; told = λ by. record { starts = starts; worked = told.told } }
-Answered-threads t v keep tasks threads before now (Err fault) ran work starts = ran tasks
+    record { run = work.run; told = λ by. record { starts = starts; worked = work.told } }
+Answered-threads t v keep tasks threads before now (Err fault) ran work starts = ran
 
 -- the version and what is kept, by another name
 pub Answered-job : (t : Tree OpState) (v : Version) (keep : Bool) (tasks : ℕ) (rejects : Option (List ℕ)) (threads : Bool) (before now : Outside) (answer : Result Ending NetFault)

@@ -5,8 +5,8 @@ use Rattle.ff_top.specs.Outside.{outside_of}
 use Rattle.ff_top.specs.Running.{by_threads}
 use Rattle.ff_top.proofs.run.answer.Goals as goal
 
-pub returns-else-not-runs-clause-ran : goal.returns-else-not-runs-clause-ran
-returns-else-not-runs-clause-ran g c =
+pub returns-clause-ran : goal.returns-clause-ran
+returns-clause-ran g c =
     let r = c.run_net in
     let seen = outside_of g.F.Files.told g.F.Files.faults g.I.Source.left g.I.Source.ended g.I.Source.faults g.O.Sink.taken g.O.Sink.faults g.S.Refusals.refused g.S.Refusals.starts g.S.Refusals.worked in
     let before = seen c.args.devices.now.files c.args.devices.now.input c.args.devices.now.out c.args.devices.now.spawner in
