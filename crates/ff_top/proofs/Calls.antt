@@ -1,6 +1,6 @@
 -- What is answered where no count of faults or refused starts rose, and which status comes with which answer.
 use Rattle.std.proofs.Common.{◌≡◌, ℕ, ◌≤◌, List, [], ◌∷◌, ◌++◌, Option, None, Some, IfSome, IsSome, IsSomeAnd, refl, sym, ap, subst, ◌∙◌, inl, inr, append-nil, arith}
-use Rattle.std.specs.Prelude.{◌⊎◌, Bool, true, false, is_some, option_and_then, Contains, Result, Ok, Err}
+use Rattle.std.specs.Prelude.{◌⊎◌, Bool, true, false, option_and_then, Contains, Result, Ok, Err}
 use Rattle.std.specs.Io.KnownBytes.{Consumes, IsAtEnd}
 use Rattle.ff_net.specs.Meaning.{Fine}
 use Rattle.ff_net.specs.Tree.{Tree}
@@ -16,7 +16,7 @@ use Rattle.ff_plan.specs.declared.kind.Queue.{Queue}
 use Rattle.ff_top.proofs.Accepted.{None-description, Soak-description, DidSoak-description, Did-accepted, Did-refused, IsStop, IsStop-accepted, Rose-more}
 use Rattle.ff_top.proofs.Limited.{limit_by-left}
 use Rattle.ff_top.specs.Commands.{DoneWith, given_to, is_built, IsInLimits, IsBeyond}
-use Rattle.ff_top.specs.Endings.{Did, DidSoak, IsNotBuilt, Comes, Counts, IsAccepted, IsRefused, IsComplete, description}
+use Rattle.ff_top.specs.Endings.{Did, DidSoak, Comes, Counts, IsAccepted, IsRefused, IsComplete, description}
 use Rattle.ff_top.specs.Messages.{fault_status, given_status, run_status, print_status, soak_status, status_of}
 use Rattle.ff_top.specs.Outside.{Outside, IsQuiet, streams_of}
 use Rattle.ff_top.specs.Running.{run_job}

@@ -1,5 +1,5 @@
 -- From what the parts of a call did to how the call ends.
-use Rattle.std.proofs.Common.{◌≡◌, ℕ, List, Option, None, Some, IsSome, IsSomeAnd, refl, sym, ap, subst, ◌∙◌, inl, inr}
+use Rattle.std.proofs.Common.{◌≡◌, ℕ, List, Option, None, Some, IsSomeAnd, sym, ap, subst, ◌∙◌, inl, inr}
 use Rattle.std.specs.Prelude.{Bool, Result, Ok, Err, option_and_then}
 use Rattle.std.proofs.KnownBytes.{Keeps-refl}
 use Rattle.ff_io.specs.FileLaws.{KeepsAll-trans, KeepsOthers-trans, KeepsOthers-from_KeepsAll}

@@ -1,5 +1,5 @@
 -- How a call ends: what each answer means, and when it may come.
-use Rattle.std.specs.Prelude.{◌≡◌, ℕ, ◌⊎◌, false, List, Option, None, Some, option_and_then, IsSome, IsSomeAnd, Result, Ok, Err}
+use Rattle.std.specs.Prelude.{◌≡◌, ℕ, ◌⊎◌, false, List, Option, None, Some, option_and_then, IsSomeAnd, Result, Ok, Err}
 use Rattle.ff_net.specs.Tree.{Tree}
 use Rattle.ff_ops.specs.Operation.{OpState}
 use Rattle.ff_top.specs.Printing.{print_output}

@@ -1,5 +1,5 @@
 -- The bytes that were written are the lines of the summary, which is the same for every limit and number of workers.
-use Rattle.std.proofs.Common.{◌≡◌, ◌++◌, refl, ap, subst, ◌∙◌, OnOk, Err}
+use Rattle.std.proofs.Common.{◌++◌, refl, ap, subst, ◌∙◌}
 use Rattle.std.specs.Io.KnownBytes.{Appends}
 use Rattle.ff_io.specs.Bytes.{AppendsPrefix}
 use Rattle.ff_soak.specs.Networks.{soak_answer}
