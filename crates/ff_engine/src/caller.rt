@@ -97,6 +97,7 @@ impl Caller {
     }
 
     /// Takes a message. None comes behind the end.
+    #[inline(always)]
     pub(crate) fn take(&mut self) -> Option<Msg<Record>>
         ensures { Receives (caller_of self.old) result (caller_of self.new) }
     {
@@ -116,8 +117,12 @@ impl Caller {
     pub(crate) fn rest<R: Wait>(&mut self, rt: &R)
         ensures { caller_of self.new ≡ caller_of self.old }
     {
-        if !self.pause.spin() {
+        if self.pause.spin() {
+            return;
+        }
+        if self.pause.lie_down() {
             self.first.flush();
+        } else {
             self.pause.park(rt);
         }
     }

@@ -111,6 +111,8 @@ impl Node for Family {
         }
     }
 
+    // Always inline: a record that is handed on through memory is moved once more.
+    #[inline(always)]
     fn svc(&mut self, r: Record, out: &mut Sends) -> Result<Next, NoMemory> {
         match self {
             Family::Number(op) => op.svc(r, out),

@@ -29,8 +29,8 @@ impl Fate {
         }
     }
 
-    /// Sends the record, lets it go or rejects it.
-    #[inline]
+    /// Sends the record, lets it go or rejects it. Always inline: a record that is handed on through memory is moved once more.
+    #[inline(always)]
     pub(crate) fn settle(self, r: Record, out: &mut Sends) -> Result<(), NoMemory>
         ensures { OnOk result (out.new ≡ settled self out.old r) }
     {

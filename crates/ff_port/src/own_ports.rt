@@ -86,6 +86,8 @@ impl<I: Inbox<T>, O: Outbox<T>, T> Ports<T> for OwnPorts<I, O, T> {
         self.outs.len()
     }
 
+    // Always inline: a message that is handed on through memory is moved once more, and the processor waits for that.
+    #[inline(always)]
     fn try_take(&mut self, k: usize) -> Option<Msg<T>> {
         let m = take_at(&mut self.ins, k)?;
         self.taken = self.taken.saturating_add(1);

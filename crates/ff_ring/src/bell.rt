@@ -36,8 +36,13 @@ impl Bell {
         }
     }
 
-    /// Wakes the thread. Something was handed over to it before.
+    /// Wakes the thread, where it lay down. Something was handed over to it before.
     pub fn ring(&self) {
+        // A thread that works tries once more before it sleeps, and finds it then. So bells that ring all the time are only read: a write
+        // would take the word from the other threads.
+        if self.state.load(Ordering::SeqCst) == WORKS {
+            return;
+        }
         // In this order: a thread whose rest is undone is also woken, to lie down again.
         self.state.store(WORKS, Ordering::SeqCst);
         self.parker.unpark();

@@ -21,6 +21,7 @@ impl<T> Outlet<T> {
     ghost use Rattle.ff_ring.specs.Outlets.{slots_of, hands_of, HandsOver, IsDue, Looks};
 
     /// Hands a bundle over and puts an empty block in its place. It answers whether there was room.
+    #[inline(never)]
     pub(crate) fn hand_over(&mut self, bundle: &mut Bundle<T>) -> bool
         requires filled { 0 < deque_len bundle.old }
         requires roomy { 0 < deque_capacity bundle.old }

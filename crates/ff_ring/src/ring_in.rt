@@ -37,6 +37,7 @@ impl<T> RingIn<T> {
     }
 
     /// Opens the next bundle.
+    #[inline(never)]
     pub(crate) fn open_next(&mut self)
         requires known { 0 < length (known_items self.old.inlet.end) }
         requires empty { self.old.bundle.items ≡ [] }

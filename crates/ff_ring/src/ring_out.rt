@@ -108,6 +108,8 @@ impl<T> Outbox<T> for RingOut<T> {
 
     ghost link = { λ out. written_ring out };
 
+    // Always inline: a message that is handed on through memory is moved once more, and the processor waits for that.
+    #[inline(always)]
     fn try_put(&mut self, m: Msg<T>) -> Put<T>
         requires { IsOpen (put_of self.old) }
         ensures link { written_ring self.new ≡ written_ring self.old }

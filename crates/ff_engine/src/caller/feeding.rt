@@ -14,6 +14,7 @@ use std::sync::Wait;
 
 impl Caller {
     /// Puts a message on the first ring. Until there is room, what comes is shown.
+    #[inline(always)]
     pub(crate) fn feed<R: Wait, O: Sink>(
         &mut self,
         rt: &R,

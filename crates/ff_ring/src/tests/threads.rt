@@ -14,9 +14,14 @@ use std::thread::Threads;
 use std::time::Duration;
 use std::{hint, thread};
 
-// Sleeps until the bell rings.
-fn sleeps(rt: &impl Wait, bell: &Bell) {
-    bell.sleep(rt, Duration::from_secs(u64::MAX));
+// Sleeps until the bell rings, once a try found nothing that began behind an earlier call. It answers whether the next try is that one.
+fn sleeps(rt: &impl Wait, bell: &Bell, tried: bool) -> bool {
+    if tried {
+        bell.sleep(rt, Duration::from_secs(u64::MAX));
+    } else {
+        bell.tries();
+    }
+    !tried
 }
 
 // Puts the numbers below `count`, and Eos behind them.
@@ -25,14 +30,16 @@ fn writes(rt: &impl Wait, mut out: RingOut<u64>, count: u64, bell: &Bell) -> Rin
     ensures { written_ring result ≡ written_ring out }
 {
     let mut next = 0;
+    let mut tried = false;
     for _ in rt.forever() {
         if next == count {
             break;
         }
         if puts(&mut out, next) {
             next += 1;
+            tried = false;
         } else {
-            sleeps(rt, bell);
+            tried = sleeps(rt, bell, tried);
         }
     }
     ends(rt, out, bell)
@@ -43,11 +50,12 @@ fn ends(rt: &impl Wait, mut out: RingOut<u64>, bell: &Bell) -> RingOut<u64>
     requires { IsOpen (put_of out) }
     ensures { written_ring result ≡ written_ring out }
 {
+    let mut tried = false;
     for _ in rt.forever() {
         if matches!(out.try_put(Msg::Eos), Put::Done) {
             break;
         }
-        sleeps(rt, bell);
+        tried = sleeps(rt, bell, tried);
     }
     hands_over(rt, out, bell)
 }
@@ -56,11 +64,12 @@ fn ends(rt: &impl Wait, mut out: RingOut<u64>, bell: &Bell) -> RingOut<u64>
 fn hands_over(rt: &impl Wait, mut out: RingOut<u64>, bell: &Bell) -> RingOut<u64>
     ensures { written_ring result ≡ written_ring out }
 {
+    let mut tried = false;
     for _ in rt.forever() {
         if out.flush() {
             break;
         }
-        sleeps(rt, bell);
+        tried = sleeps(rt, bell, tried);
     }
     out
 }
@@ -70,11 +79,15 @@ fn reads(rt: &impl Wait, mut inn: RingIn<u64>, bell: &Bell) -> (RingIn<u64>, u64
     ensures { read_ring result.0 ≡ read_ring inn }
 {
     let mut next = 0u64;
+    let mut tried = false;
     for _ in rt.forever() {
         match inn.try_take() {
-            Some(Msg::Item(number)) => next = after(next, number),
+            Some(Msg::Item(number)) => {
+                next = after(next, number);
+                tried = false;
+            }
             Some(_) => break,
-            None => sleeps(rt, bell),
+            None => tried = sleeps(rt, bell, tried),
         }
     }
     (inn, next)

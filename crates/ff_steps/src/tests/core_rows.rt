@@ -1,4 +1,4 @@
-// Many random schedules of networks with copies of a node.
+// A thousand random schedules of each of six networks with copies of a node.
 use super::opened;
 use super::seen::{output, random, rejects};
 use super::sieve::{SIEVE, Sieve};
@@ -100,11 +100,16 @@ fn runs_to_the_answer(rt: &impl Abort, alloc: Global, run: Run) -> Result<(), Fa
 
 fn all_run(rt: &impl Abort, alloc: Global, form: Form) -> Result<(), Fail> {
     for cap in [1, 3] {
-        for seed in 1..51 {
+        for seed in 1..501 {
             runs_to_the_answer(rt, alloc, Run { form, cap, seed })?;
         }
     }
     Ok(())
+}
+
+#[test]
+fn a_farm_in_turn(rt: HostRuntime) -> Result<(), Fail> {
+    all_run(&rt, rt.alloc(), Form::Farm(Sched::Rr))
 }
 
 #[test]
@@ -120,6 +125,11 @@ fn an_ordered_farm_in_turn(rt: HostRuntime) -> Result<(), Fail> {
 #[test]
 fn an_ordered_farm_on_demand(rt: HostRuntime) -> Result<(), Fail> {
     all_run(&rt, rt.alloc(), Form::OFarm(Sched::Od))
+}
+
+#[test]
+fn an_all_to_all_in_turn(rt: HostRuntime) -> Result<(), Fail> {
+    all_run(&rt, rt.alloc(), Form::A2a(Route::Rr))
 }
 
 #[test]

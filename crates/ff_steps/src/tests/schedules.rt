@@ -1,4 +1,4 @@
-// Many random schedules of networks, whose middle node ends by itself.
+// A thousand random schedules of each of four networks, whose middle node ends by itself.
 use super::narrow::{Narrow, narrow_of};
 use super::opened;
 use super::seen::{output, random, rejects};
@@ -119,7 +119,7 @@ fn runs_to_the_answer(rt: &impl Abort, alloc: Global, run: Run) -> Result<(), Fa
 fn random_schedules_give_the_one_thread_answer(rt: HostRuntime) -> Result<(), Fail> {
     for form in [Form::Flat, Form::Nested, Form::Paired, Form::Joined] {
         for cap in [1, 2, 64] {
-            for seed in 1..101 {
+            for seed in 1..335 {
                 runs_to_the_answer(&rt, rt.alloc(), Run { form, cap, seed })?;
             }
         }

@@ -1,4 +1,4 @@
-// Many random schedules of networks with feedback.
+// A thousand random schedules of each of four networks with feedback.
 use super::doubling::Doubling;
 use super::records;
 use super::seen::{output, random, rejects};
@@ -82,7 +82,7 @@ fn ends(rt: &impl Abort, alloc: Global, run: Run) -> Result<(), Fail> {
 
 fn all_end(rt: &impl Abort, alloc: Global, form: Form, limit: u64) -> Result<(), Fail> {
     for cap in [1, 2, 64] {
-        for seed in 1..101 {
+        for seed in 1..335 {
             let run = Run {
                 form,
                 cap,

@@ -5,7 +5,9 @@ ghost use Rattle.ff_unit.specs.StageParts.{held_of, TakesHeld};
 use ff_node::Sends;
 use ff_rec::{Msg, Record};
 
-/// The first message that is held, which is taken out.
+/// The first message that is held, which is taken out. Always inline: a message that is handed on through memory is moved once
+/// more, and the processor waits for that.
+#[inline(always)]
 pub(super) fn take_held(
     front: &mut Option<Msg<Record>>,
     sends: &mut Sends,
