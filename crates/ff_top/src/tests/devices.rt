@@ -22,7 +22,7 @@ run 'add 1 1' | 0\n1\n2\n | 4 | 1\n2 | ffrun: write fault\n
 run id | 1\n2\n3\n | 4 | 1\n2 | ffrun: write fault\n
 // What was rejected is not told then.
 run 'add 1 1' | x\n0\n1\n2\n | 4 | 1\n2 | ffrun: write fault\n
-run --tasks 5 'wrap 2 (halve 1) if 1 > 1' | x\n2\n1 | 4 | 1\n1 | ffrun: write fault\n
+run --tasks 5 'wrap 2 (halve 1) if 1 > 1' | x\n2\n | 4 | 1\n1 | ffrun: write fault\n
 check id | 1 | 0 | id\n |
 check 'farm 2 rr(id)' | 1 | 4 | far | ffrun: write fault\n
 plan id | 1 | 4 | 0 s | ffrun: write fault\n
