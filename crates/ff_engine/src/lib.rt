@@ -25,6 +25,3 @@ pub use fault::NetFault;
 pub use ff_steps::NetUnit;
 pub use net_job::NetJob;
 pub use run::run_net;
-
-#[cfg(test)]
-mod tests;

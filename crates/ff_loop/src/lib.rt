@@ -20,6 +20,3 @@ pub use scheduler::Scheduler;
 pub use worker::WrapWorker;
 pub use worklist::Worklist;
 pub use wrap_master::WrapMaster;
-
-#[cfg(test)]
-mod tests;

@@ -25,6 +25,3 @@ pub use fault::RuleFault;
 pub use net::{Net, Route, Sched, Test, Version};
 pub use path::Path;
 pub use tasks::{Tasks, sort};
-
-#[cfg(test)]
-mod tests;

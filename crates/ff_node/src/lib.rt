@@ -16,6 +16,3 @@ pub use ff_rec::{Cmp, Records};
 pub use node::Node;
 pub use running::{node_end, node_step};
 pub use sends::Sends;
-
-#[cfg(test)]
-mod tests;

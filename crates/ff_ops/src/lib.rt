@@ -17,10 +17,7 @@ mod number_op;
 mod op;
 mod ordered_op;
 mod row;
-mod table;
-#[cfg(test)]
-mod tests;
-mod totals;
+mod table;mod totals;
 
 pub use arg::{Arg, ArgKind};
 pub use counts::Counts;

@@ -8,6 +8,3 @@ mod order;
 pub use odeal::ODeal;
 pub use omerge::OMerge;
 pub use order::Order;
-
-#[cfg(test)]
-mod tests;

@@ -25,6 +25,3 @@ pub use layout::{Edge, Layout, UnitRow};
 pub use places::nets_stand_at_places;
 pub use planning::plan;
 pub use wiring::each_edge_has_two_ends;
-
-#[cfg(test)]
-mod tests;

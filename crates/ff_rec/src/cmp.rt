@@ -2,9 +2,6 @@
 ghost use Rattle.std.specs.Prelude.{◌≡◌};
 ghost use Rattle.ff_rec.specs.Cmp.{compares};
 
-#[cfg(test)]
-mod tests;
-
 /// A comparison of two numbers.
 #[derive(Clone, Copy, Debug, PartialEq, Eq, Hash)]
 pub enum Cmp {

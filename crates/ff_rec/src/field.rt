@@ -4,9 +4,6 @@ ghost use Rattle.std.specs.Char.{to_ascii_uppercase, to_ascii_lowercase};
 ghost use Rattle.ff_rec.specs.Lines.{IsPlain};
 ghost use Rattle.ff_rec.specs.Field.{IsFieldAnswer};
 
-#[cfg(test)]
-mod tests;
-
 use crate::{FieldFault, Kept, NoMemory};
 use memchr::memchr2;
 use std::alloc::Global;

@@ -6,8 +6,6 @@ mod line;
 mod passing;
 mod progress;
 mod steps;
-#[cfg(test)]
-mod tests;
 
 use crate::{FeedFault, NoMemory, Record};
 use line::push_line;

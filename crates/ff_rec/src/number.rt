@@ -2,9 +2,6 @@
 ghost use Rattle.std.specs.Prelude.{◌≡◌, ◌<◌, ◌≤◌, ◌^◌, length, IfOk, IfSome};
 ghost use Rattle.ff_rec.specs.Number.{number, numeral, printed};
 
-#[cfg(test)]
-mod tests;
-
 use crate::{Field, NoMemory};
 use itoa::Buffer;
 use std::alloc::Global;

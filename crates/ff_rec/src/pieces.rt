@@ -3,9 +3,6 @@ ghost use Rattle.std.specs.Prelude.{◌≡◌, ◌∷◌, ◌+◌, ◌<◌, ◌�
 ghost use Rattle.ff_rec.specs.Lines.{cut};
 ghost use Rattle.ff_rec.specs.Pieces.{rest_cut, whole_of, Lacks};
 
-#[cfg(test)]
-mod tests;
-
 use memchr::memchr;
 
 /// So many bytes are looked at one by one before a search by wide vectors, which takes longer to begin.

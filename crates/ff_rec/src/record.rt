@@ -8,8 +8,6 @@ ghost use Rattle.ff_rec.specs.Number.{printed};
 ghost use Rattle.ff_rec.specs.Pieces.{Lacks};
 
 mod edits;
-#[cfg(test)]
-mod tests;
 
 use crate::block::{place, push_field, put};
 use crate::bytes::Bytes;

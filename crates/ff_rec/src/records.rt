@@ -2,9 +2,6 @@
 ghost use Rattle.std.specs.Prelude.{◌≡◌, ◌↔◌, ◌≤◌, [], ◌∷◌, ◌++◌, None, length, slice_get, IsTrue, OnOk, OnErr, MatchOption, Some, IfOk};
 ghost use Rattle.ff_rec.specs.Records.{TakesFirst};
 
-#[cfg(test)]
-mod tests;
-
 use crate::{Kept, NoMemory, Record};
 use std::alloc::Global;
 use std::collections::VecDeque;

@@ -9,6 +9,3 @@ mod whole;
 
 pub use ff_stream::{Ending, Report, RunFault, Stop};
 pub use run::run_single;
-
-#[cfg(test)]
-mod tests;

@@ -17,6 +17,3 @@ pub use network::MOST_WORKERS;
 pub use print::print_summary;
 pub use run::soak;
 pub use summary::Summary;
-
-#[cfg(test)]
-mod tests;

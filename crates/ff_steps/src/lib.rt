@@ -23,6 +23,3 @@ mod wraps;
 pub use net_unit::NetUnit;
 pub use network::NetCore;
 pub use units::make_units;
-
-#[cfg(test)]
-mod tests;

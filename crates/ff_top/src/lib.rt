@@ -21,6 +21,3 @@ mod top;
 pub use devices::{Devices, Seen};
 pub use ff_words::{Command, CommandFault, Given, Text, read_command};
 pub use top::{ffrun, refuse_memory};
-
-#[cfg(test)]
-mod tests;

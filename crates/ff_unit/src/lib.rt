@@ -26,6 +26,3 @@ pub use runner::NodeRunner;
 pub use stage::Stage;
 pub use takes::take_any;
 pub use unit::Unit;
-
-#[cfg(test)]
-mod tests;

@@ -15,6 +15,3 @@ pub use command::{Command, CommandFault, DcRule, Given};
 pub use ff_plan::Queue;
 pub use text::Text;
 pub use words::read_command;
-
-#[cfg(test)]
-mod tests;

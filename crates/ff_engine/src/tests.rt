@@ -1,7 +1,0 @@
-// What no clause says: that memory is there, that threads come to their end, and that the calls work together.
-mod holding;
-mod lines;
-mod meeting;
-mod runs;
-mod slow;
-mod wraps;

@@ -1,0 +1,135 @@
+// A thousand random schedules of each of four networks with feedback.
+use super::doubling::Doubling;
+use super::records;
+use super::seen::{output, random, rejects};
+use super::wrap_nets::{Form, network};
+use ff_net::{Version, check};
+use ff_steps::NetCore;
+use std::alloc::Global;
+use std::process::Abort;
+use std::test::Fail;
+
+// By hand: "5" gives two tasks "3", each of these two "1", and each "1" two results "a". So there are 7 tasks from "5", 3 from
+// "3", one that is rejected, and "b", which is a task and then a result: 12 tasks and 13 results.
+const INPUT: &str = "5 7 b 3";
+
+const TASKS: u64 = 12;
+
+const OUTPUT_BYTES: &[u8] = b"\n\n\n\n\n\n\n\n\n\n\n\n\naaaaaaaaaaaab";
+
+const REJECTS: &[u8] = b"7\n";
+
+// A run: the network, the capacity of its queues, its task limit, and where its random numbers start.
+#[derive(Clone, Copy, Debug)]
+struct Run {
+    form: Form,
+    cap: u32,
+    limit: u64,
+    seed: u32,
+}
+
+// The core of a network before its first event.
+fn opened(rt: &impl Abort, alloc: Global, run: Run) -> Result<NetCore<Doubling>, Fail> {
+    let checked = check(network(alloc, run.form)?, Version::Two)
+        .ok()
+        .ok_or("refused")?;
+    assert!(rt; 1 <= run.cap && run.cap <= 4096);
+    let input = records(alloc, INPUT)?;
+    Ok(NetCore::new(alloc, checked, run.cap, run.limit, true, input)?)
+}
+
+// Ten numbers from 0 to 7. The parties are 0 to 6 at most.
+fn ten(seed: &mut u32) -> [u32; 10] {
+    let mut events = [0; 10];
+    for event in &mut events {
+        *event = random(seed) % 8;
+    }
+    events
+}
+
+// Steps the parties at random, at most two thousand times ten, and answers whether all have ended.
+fn runs(core: &mut NetCore<Doubling>, run: Run) -> bool {
+    let mut seed = run.seed;
+    for _ in 0..2000 {
+        if core.run_schedule(&ten(&mut seed)) {
+            return true;
+        }
+    }
+    false
+}
+
+fn sorted(bytes: Vec<u8>) -> Result<Vec<u8>, Fail> {
+    let mut sorted = bytes;
+    sorted.sort()?;
+    Ok(sorted)
+}
+
+// All have ended, with memory, and the limit was passed as told; where it wasn't, the output and the rejects are right.
+fn ends(rt: &impl Abort, alloc: Global, run: Run) -> Result<(), Fail> {
+    let mut core = opened(rt, alloc, run)?;
+    assert!(rt; runs(&mut core, run), "{run:?}");
+    assert!(rt; !core.short_of_memory(), "{run:?}");
+    assert_eq!(rt; core.over(), run.limit < TASKS, "{run:?}");
+    if core.over() {
+        return Ok(());
+    }
+    let given = sorted(output(alloc, &core)?)?;
+    assert_eq!(rt; given.as_slice(), OUTPUT_BYTES, "{run:?}");
+    let rejected = rejects(alloc, &mut core)?;
+    assert_eq!(rt; rejected.as_slice(), REJECTS, "{run:?}");
+    Ok(())
+}
+
+fn all_end(rt: &impl Abort, alloc: Global, form: Form, limit: u64) -> Result<(), Fail> {
+    for cap in [1, 2, 64] {
+        for seed in 1..335 {
+            let run = Run {
+                form,
+                cap,
+                limit,
+                seed,
+            };
+            ends(rt, alloc, run)?;
+        }
+    }
+    Ok(())
+}
+
+#[test]
+fn a_wrap_of_one_worker(rt: HostRuntime) -> Result<(), Fail> {
+    all_end(&rt, rt.alloc(), Form::Alone(1), 1000)
+}
+
+#[test]
+fn a_wrap_of_three_at_its_limit(rt: HostRuntime) -> Result<(), Fail> {
+    all_end(&rt, rt.alloc(), Form::Alone(3), TASKS)
+}
+
+#[test]
+fn a_wrap_of_three_past_its_limit(rt: HostRuntime) -> Result<(), Fail> {
+    all_end(&rt, rt.alloc(), Form::Alone(3), TASKS - 1)
+}
+
+#[test]
+fn a_wrap_between_two_nodes(rt: HostRuntime) -> Result<(), Fail> {
+    all_end(&rt, rt.alloc(), Form::Between, TASKS + 1)
+}
+
+// Where a node or a worker gives up, Abort goes on to all, and all end.
+#[test]
+fn a_wrap_that_is_cut_off(rt: HostRuntime) -> Result<(), Fail> {
+    for form in [Form::Broken, Form::Weak] {
+        for cap in [1, 2, 64] {
+            let run = Run {
+                form,
+                cap,
+                limit: 1000,
+                seed: 7,
+            };
+            let mut core = opened(&rt, rt.alloc(), run)?;
+            assert!(rt; runs(&mut core, run), "{run:?}");
+            assert!(rt; core.short_of_memory() && !core.over(), "{run:?}");
+        }
+    }
+    Ok(())
+}
