@@ -1,10 +1,15 @@
 -- The ends of rings, kept by the numbers of their edges.
-use Rattle.std.specs.Prelude.{◌≡◌, ℕ, ◌<◌, List, [], ◌++◌, map, Option, None, Some}
+use Rattle.std.specs.Prelude.{◌≡◌, ℕ, ◌<◌, List, [], ◌++◌, map, Option, None, Some, Bool, true, false, slice_get}
 use Rattle.std.specs.Option.{option_map}
 use Rattle.ff_rec.specs.Lines.{Rec}
 use Rattle.ff_node.specs.Runs.{Message}
+use Rattle.ff_plan.specs.Rows.{Row}
+use Rattle.ff_plan.specs.declared.kind.Party.{Party}
+use Rattle.ff_plan.specs.declared.kind.Party.TheVariants.{Caller, Unit as OfUnit}
+use Rattle.ff_plan.specs.declared.kind.UnitKind.{UnitKind}
+use Rattle.ff_plan.specs.declared.kind.UnitKind.TheVariants.{Stage, Master, Worker}
 use Rattle.ff_plan.specs.declared.layout.Edge.{Edge}
-use Rattle.ff_ring.specs.Ends.{got_of, put_of, room_of, read_ring, written_ring, IsMade}
+use Rattle.ff_ring.specs.Ends.{got_of, put_of, room_of, is_eager, read_ring, written_ring, IsMade}
 use Rattle.ff_ring.specs.Names.{RingName}
 use Rattle.ff_ring.specs.declared.ring_in.RingIn.{RingIn}
 use Rattle.ff_ring.specs.declared.ring_out.RingOut.{RingOut}
@@ -22,10 +27,27 @@ IsFreshPair (Some inn) (Some out) = IsFreshRing inn out
 IsFreshPair (Some inn) None = ⊥
 IsFreshPair None out = ⊥
 
--- an edge's ring is as long as the edge
-abbrev pub IsRingOf : Edge → Option (RingOut Rec) → Type 0
-IsRingOf edge None = ⊥
-IsRingOf edge (Some out) = IsMade edge.cap out
+-- whether a unit hands over at once what its reader lacks: one that runs nodes may take long for its next record, and each
+-- worker of a wrap waits for its next task; all other units hand over what waits before they pause
+abbrev pub hurries : UnitKind → Bool
+hurries Stage = true
+hurries Master = true
+hurries Worker = true
+hurries _ = false
+
+abbrev pub row_hurries : Option Row → Bool
+row_hurries None = true
+row_hurries (Some row) = hurries row.kind
+
+-- whether the writer of an edge does so; the caller hands over behind each piece of its input
+abbrev pub writer_hurries : List Row → Party → Bool
+writer_hurries rows Caller = false
+writer_hurries rows (OfUnit number) = row_hurries (slice_get rows number)
+
+-- an edge's ring is as long as the edge, and its writer hands over as it is to
+abbrev pub IsRingOf : List Row → Edge → Option (RingOut Rec) → Type 0
+IsRingOf rows edge None = ⊥
+IsRingOf rows edge (Some out) = IsMade edge.cap out × (is_eager out ≡ writer_hurries rows edge.writer)
 
 -- nothing went over the rings of these ends
 pub record AreFresh (ins : List (Option (RingIn Rec))) (outs : List (Option (RingOut Rec))) : Type 0 where

@@ -3,11 +3,11 @@ ghost use Rattle.std.specs.Prelude.{◌≡◌, ◌≤◌, length, All, IfOk, OnO
 ghost use Rattle.std.specs.List.{AllZip};
 ghost use Rattle.std.specs.Option.{option_map};
 ghost use Rattle.ff_ring.specs.Ends.{got_of, put_of, read_ring, written_ring};
-ghost use Rattle.ff_engine.specs.Boards.{IsFreshPair, IsRingOf, IsFirst, gots_on, puts_on, reads_on, writes_on};
+ghost use Rattle.ff_engine.specs.Boards.{IsFreshPair, IsRingOf, IsFirst, writer_hurries, gots_on, puts_on, reads_on, writes_on};
 ghost use Rattle.ff_engine.specs.Slots.{slot};
 
 use crate::bells::Bells;
-use ff_plan::Edge;
+use ff_plan::{Edge, Party, UnitKind, UnitRow};
 use ff_rec::{NoMemory, Record};
 use ff_ring::{RingIn, RingOut, ring, settle};
 use std::alloc::Global;
@@ -21,24 +21,48 @@ pub(crate) struct Board {
     pub(crate) outs: Vec<Option<RingOut<Record>>>,
 }
 
-/// A ring for each of these edges, between the bells of its writer and its reader.
-pub(crate) fn make_rings(alloc: Global, edges: &[Edge], bells: &Bells) -> Result<Board, NoMemory>
+/// A ring for each of these edges of the units of these rows, between the bells of its writer and its reader.
+pub(crate) fn make_rings(
+    alloc: Global,
+    rows: &[UnitRow],
+    edges: &[Edge],
+    bells: &Bells,
+) -> Result<Board, NoMemory>
     requires low { All (λ edge. 1 ≤ edge.cap) edges.now }
     requires high { All (λ edge. edge.cap ≤ 4096) edges.now }
     ensures fresh { IfOk result (λ board. AllZip IsFreshPair board.ins.items board.outs.items) }
     ensures count { IfOk result (λ board. length board.ins.items ≡ length edges.now) }
-    ensures caps { IfOk result (λ board. AllZip IsRingOf edges.now board.outs.items) }
+    ensures caps { IfOk result (λ board. AllZip (IsRingOf rows.now) edges.now board.outs.items) }
 {
     let mut ins = Vec::new(alloc);
     let mut outs = Vec::new(alloc);
     for edge in edges {
         let writer = Arc::try_clone(bells.of(edge.writer))?;
         let reader = Arc::try_clone(bells.of(edge.reader))?;
-        let (out, inn) = ring(alloc, edge.cap as usize, writer, reader)?;
+        let (mut out, inn) = ring(alloc, edge.cap as usize, writer, reader)?;
+        out.set_eager(hurries(edge.writer, rows));
         ins.push(Some(inn))?;
         outs.push(Some(out))?;
     }
     Ok(Board { ins, outs })
+}
+
+// Whether the writer of an edge hands over as soon as its reader has taken all else, and not only full bundles and what waits
+// before a pause. A unit that runs a node does, which may take long for its next record, and the master of a wrap, for whose
+// tasks the workers wait. The others are at their next message at once, and a hand-over for each one would cost them more.
+fn hurries(writer: Party, rows: &[UnitRow]) -> bool
+    ensures { result ≡ writer_hurries rows.now writer }
+{
+    let Party::Unit(number) = writer else {
+        return false;
+    };
+    match rows.get(number as usize) {
+        Some(row) => matches!(
+            row.kind,
+            UnitKind::Stage | UnitKind::Master | UnitKind::Worker
+        ),
+        None => true,
+    }
 }
 
 /// Settles all rings, once their threads have ended.

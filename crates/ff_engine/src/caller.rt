@@ -113,17 +113,12 @@ impl Caller {
         Some(m)
     }
 
-    /// A pause. Before it parks, it hands over what waits.
+    /// Waits for the other ends.
     pub(crate) fn rest<R: Wait>(&mut self, rt: &R)
         ensures { caller_of self.new ≡ caller_of self.old }
     {
-        if self.pause.spin() {
-            return;
-        }
-        if self.pause.lie_down() {
+        if self.pause.rest(rt) {
             self.first.flush();
-        } else {
-            self.pause.park(rt);
         }
     }
 }

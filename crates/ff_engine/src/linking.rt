@@ -46,7 +46,7 @@ pub(crate) fn link_units<U: Unit, R: Clone + Drop>(
     ensures ins { IfOk result (λ n. length n.board.ins.items ≡ length edges.now) }
     ensures outs { IfOk result (λ n. length n.board.outs.items ≡ length edges.now) }
 {
-    let mut board = make_rings(alloc, edges, bells)?;
+    let mut board = make_rings(alloc, &rows, edges, bells)?;
     let (first, last) = take_outer(&mut board);
     let jobs = make_jobs(alloc, units, rows, bells, rt, &mut board)?;
     Ok(Network {

@@ -32,19 +32,13 @@ pub(crate) fn run_unit<U: Unit, P: Ports<Record>, R: Wait>(
     }
 }
 
-// Waits for the other ends. Before it parks, what was put is handed over: the others wait for that. Once the thread lies
-// down, the others' bells undo it, so both are tried after that: to hand over, and another step.
+// Waits for the other ends.
 fn wait<P: Ports<Record>, R: Wait>(ports: &mut P, pause: &mut Pause, rt: &R)
     ensures gots { P.gots ports.new ≡ P.gots ports.old }
     ensures puts { P.puts ports.new ≡ P.puts ports.old }
     ensures link { P.link ports.new ≡ P.link ports.old }
 {
-    if pause.spin() {
-        return;
-    }
-    if pause.lie_down() {
+    if pause.rest(rt) {
         ports.flush();
-    } else {
-        pause.park(rt);
     }
 }

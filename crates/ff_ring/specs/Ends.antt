@@ -71,11 +71,10 @@ module _ {T : Type 0} where
     pub starved : IsTrue (is_eager out) → IsStarved out.outlet → 0 < waiting_of out → hands_of out.outlet ≡ 0
     pub single : slots_of out.outlet ≡ 1 → waiting_of out ≡ 0
 
-  -- the writing end of a fresh ring of this capacity: eager, with room for more messages than the ring holds bundles,
-  -- where it has two slots or more, and for one message where it has one
+  -- the writing end of a fresh ring of this capacity: with room for more messages than the ring holds bundles, where it
+  -- has two slots or more, and for one message where it has one
   pub record IsMade (cap : ℕ) (out : RingOut T) : Type 0 where
     pub size : deque_capacity out.bundle ≡ bundle_size cap
     pub count : slots_of out.outlet ≡ bundle_count cap
-    pub eager : IsTrue (is_eager out)
     pub some : 0 < room_of out
     pub more : 2 ≤ cap → (2 ≤ bundle_count cap) × (bundle_count cap < room_of out)

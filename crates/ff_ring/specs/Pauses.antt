@@ -1,5 +1,5 @@
 -- What contracts see of pauses.
-use Rattle.std.specs.Prelude.{◌≡◌, ℕ, Bool, false}
+use Rattle.std.specs.Prelude.{◌≡◌, ◌*◌, ℕ, Bool, false, not, nat_le, if◌then◌else◌}
 use Rattle.ff_ring.specs.declared.pause.Pause.{Pause}
 
 -- how many spins the next pause has
@@ -21,3 +21,23 @@ micros_of p = p.micros
 -- nothing was waited for yet
 abbrev pub IsFresh : Pause → Type 0
 IsFresh p = (spins_of p ≡ 1) × (lies_down p ≡ false) × (millis_of p ≡ 2) × (micros_of p ≡ 100)
+
+-- whether the next pause is spins
+abbrev pub spins_next : Pause → Bool
+spins_next p = nat_le (spins_of p) 64
+
+-- whether the thread lies down in the next pause
+abbrev pub lies_next : Pause → Bool
+lies_next p = if spins_next p then false else not (lies_down p)
+
+-- whether it sleeps in the next pause: it lay down, and tried once more
+abbrev pub sleeps_next : Pause → Bool
+sleeps_next p = if spins_next p then false else lies_down p
+
+-- the spins behind the next pause
+abbrev pub spins_behind : Pause → ℕ
+spins_behind p = if spins_next p then 2 * spins_of p else spins_of p
+
+-- whether it lies down behind the next pause
+abbrev pub lies_behind : Pause → Bool
+lies_behind p = if spins_next p then lies_down p else not (lies_down p)

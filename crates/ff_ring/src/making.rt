@@ -1,8 +1,8 @@
 // How a ring is made.
-ghost use Rattle.std.specs.Prelude.{◌≡◌, ◌+◌, ◌-◌, ◌<◌, ◌≤◌, ◌^◌, [], length, All, IfOk};
+ghost use Rattle.std.specs.Prelude.{◌≡◌, ◌+◌, ◌-◌, ◌<◌, ◌≤◌, ◌^◌, [], length, All, IfOk, IsTrue};
 ghost use Rattle.std.proofs.Common.{deque_capacity};
 ghost use Rattle.rtrb.specs.Ring.{known_free, received, known_items};
-ghost use Rattle.ff_ring.specs.Ends.{put_of, got_of, known_of, room_of, written_ring, read_ring, IsMade};
+ghost use Rattle.ff_ring.specs.Ends.{put_of, got_of, known_of, room_of, is_eager, written_ring, read_ring, IsMade};
 ghost use Rattle.ff_ring.specs.Sizes.{bundle_size, bundle_count};
 
 use crate::bundle::{Bundle, Emptied, Filled};
@@ -33,6 +33,7 @@ pub fn ring<T: Drop>(
     ensures put { IfOk result (λ r. put_of r.0 ≡ []) }
     ensures got { IfOk result (λ r. (got_of r.1 ≡ []) × (known_of r.1 ≡ 0)) }
     ensures made { IfOk result (λ r. IsMade cap r.0) }
+    ensures eager { IfOk result (λ r. IsTrue (is_eager r.0)) }
 {
     let size = bundle_size(cap);
     let count = cap.div_ceil(size);

@@ -21,8 +21,9 @@ const FIRST_DOZE: u64 = 100;
 const LONGEST_DOZE: u64 = 2000;
 
 /// The pauses of a thread between its tries, while it finds nothing to do: 1, 2, 4, .. 64 spins, which cost no more
-/// than a message's way, and then parks of 2, 4, .. 50 milliseconds, which the other ends of its rings cut short. It
-/// never yields its time slice, since a busy machine gives the whole slice away.
+/// than a message's way, and then parks of 2, 4, .. 50 milliseconds, which the other ends of its rings cut short. Before
+/// each park it lies down and tries once more, so that no bell is missed. It never yields its time slice, since a busy
+/// machine gives the whole slice away.
 #[derive(Drop)]
 pub struct Pause {
     bell: Arc<Bell, Global>,
@@ -40,8 +41,8 @@ pub struct Pause {
 }
 
 impl Pause {
-    ghost use Rattle.std.specs.Prelude.{◌≡◌, ◌*◌, min, not, true, false, ◌↔◌, IsTrue, if◌then◌else◌};
-    ghost use Rattle.ff_ring.specs.Pauses.{IsFresh, spins_of, lies_down, millis_of, micros_of};
+    ghost use Rattle.std.specs.Prelude.{◌≡◌, ◌*◌, min, not, true, false, if◌then◌else◌};
+    ghost use Rattle.ff_ring.specs.Pauses.{IsFresh, spins_of, lies_down, millis_of, micros_of, spins_next, lies_next, sleeps_next, spins_behind, lies_behind};
 
     /// The pauses of the thread with this bell. The other ends of its rings are given it too.
     pub fn new(bell: Arc<Bell, Global>) -> Pause
@@ -69,11 +70,44 @@ impl Pause {
         self.micros = FIRST_DOZE;
     }
 
-    /// Spins, twice as long as the time before, and answers whether it did. Where it didn't, lie down.
-    pub fn spin(&mut self) -> bool
-        ensures answer { IsTrue result ↔ (spins_of self.old ≤ 64) }
-        ensures spins { spins_of self.new
-            ≡ (if result then 2 * spins_of self.old else spins_of self.old) }
+    /// A pause before the next try. Where it answers so, the thread lay down: hand over what waits before that try. Others
+    /// wait for it, and the pause behind that try is a park.
+    pub fn rest<R: Wait>(&mut self, rt: &R) -> bool
+        ensures answer { result ≡ lies_next self.old }
+        ensures spins { spins_of self.new ≡ spins_behind self.old }
+        ensures lies { lies_down self.new ≡ lies_behind self.old }
+        ensures millis { millis_of self.new
+            ≡ (if sleeps_next self.old then min 50 (2 * millis_of self.old) else millis_of self.old) }
+        ensures micros { micros_of self.new ≡ micros_of self.old }
+    {
+        if self.spin() {
+            return false;
+        }
+        if self.lie_down() {
+            return true;
+        }
+        self.park(rt);
+        false
+    }
+
+    /// A pause as where no bell need ring, with sleeps of 100, 200, .. 2,000 microseconds at most.
+    pub fn watch<R: Wait>(&mut self, rt: &R)
+        ensures spins { spins_of self.new ≡ spins_behind self.old }
+        ensures lies { lies_down self.new ≡ lies_behind self.old }
+        ensures millis { millis_of self.new ≡ millis_of self.old }
+        ensures micros { micros_of self.new
+            ≡ (if sleeps_next self.old then min 2000 (2 * micros_of self.old) else micros_of self.old) }
+    {
+        if self.spin() || self.lie_down() {
+            return;
+        }
+        self.doze(rt);
+    }
+
+    // Spins, twice as long as the time before, and answers whether it did.
+    fn spin(&mut self) -> bool
+        ensures answer { result ≡ spins_next self.old }
+        ensures spins { spins_of self.new ≡ spins_behind self.old }
         ensures lies { lies_down self.new ≡ lies_down self.old }
         ensures millis { millis_of self.new ≡ millis_of self.old }
         ensures micros { micros_of self.new ≡ micros_of self.old }
@@ -88,9 +122,8 @@ impl Pause {
         true
     }
 
-    /// Lies down, and answers whether it did. Then hand over what waits, and try once more. Where it already lay, and
-    /// so that was done, park.
-    pub fn lie_down(&mut self) -> bool
+    // Lies down, and answers whether it did.
+    fn lie_down(&mut self) -> bool
         ensures answer { result ≡ not (lies_down self.old) }
         ensures spins { spins_of self.new ≡ spins_of self.old }
         ensures lies { lies_down self.new ≡ true }
@@ -105,9 +138,8 @@ impl Pause {
         true
     }
 
-    /// Parks until the bell rings or the time is over. The next park may last longer. Where it lay down before, other
-    /// threads see it rest.
-    pub fn park<R: Wait>(&mut self, rt: &R)
+    // Parks until the bell rings or the time is over. The next park may last longer.
+    fn park<R: Wait>(&mut self, rt: &R)
         ensures spins { spins_of self.new ≡ spins_of self.old }
         ensures lies { lies_down self.new ≡ false }
         ensures millis { millis_of self.new ≡ min 50 (2 * millis_of self.old) }
@@ -118,8 +150,8 @@ impl Pause {
         self.millis = (2 * self.millis).min(LONGEST_PARK);
     }
 
-    /// Parks for 100, 200, .. 2,000 microseconds at most, as where no bell need ring.
-    pub fn doze<R: Wait>(&mut self, rt: &R)
+    // Parks as where no bell need ring.
+    fn doze<R: Wait>(&mut self, rt: &R)
         ensures spins { spins_of self.new ≡ spins_of self.old }
         ensures lies { lies_down self.new ≡ false }
         ensures millis { millis_of self.new ≡ millis_of self.old }

@@ -21,9 +21,9 @@ pub struct RingOut<T> {
 }
 
 impl<T> RingOut<T> {
-    ghost use Rattle.std.specs.Prelude.{◌+◌, ◌-◌, min, ◌∷◌, ◌++◌, ◌≤◌, IsTrue, MatchBool};
+    ghost use Rattle.std.specs.Prelude.{◌+◌, ◌-◌, min, ◌∷◌, ◌++◌, ◌≤◌, ℕ, IsTrue, MatchBool};
     ghost use Rattle.ff_ring.specs.Outlets.{hands_of, slots_of};
-    ghost use Rattle.ff_ring.specs.Ends.{put_of, held_of, room_of, is_eager, written_ring, HasPlace, Gathers};
+    ghost use Rattle.ff_ring.specs.Ends.{put_of, held_of, room_of, is_eager, written_ring, HasPlace, Gathers, IsMade};
 
     /// An end that is eager, with an empty bundle.
     pub(crate) fn new(outlet: Outlet<T>, bundle: Bundle<T>) -> RingOut<T>
@@ -49,6 +49,7 @@ impl<T> RingOut<T> {
         ensures put { put_of self.new ≡ put_of self.old }
         ensures held { held_of self.new ≡ held_of self.old }
         ensures room { room_of self.new ≡ room_of self.old }
+        ensures made { (cap : ℕ) → IsMade cap self.old → IsMade cap self.new }
         ensures eager { is_eager self.new ≡ eager }
     {
         self.eager = eager;

@@ -175,16 +175,16 @@ fn pauses_spin_and_park(rt: HostRuntime) -> Result<(), Fail> {
     let mut pause = Pause::new(Arc::try_clone(&bell)?);
     for _ in 0..2 {
         for _ in 0..7 {
-            assert!(rt; pause.spin());
+            assert!(rt; !pause.rest(&rt));
         }
         for _ in 0..6 {
-            assert!(rt; !pause.spin());
-            assert!(rt; pause.lie_down());
-            assert!(rt; !pause.lie_down());
+            // It lies down, and then it parks; and the other way to pause does so, too.
+            assert!(rt; pause.rest(&rt));
             assert!(rt; !bell.notes_rest());
-            pause.park(&rt);
+            assert!(rt; !pause.rest(&rt));
             assert!(rt; !bell.notes_rest());
-            pause.doze(&rt);
+            pause.watch(&rt);
+            pause.watch(&rt);
         }
         pause.reset();
     }

@@ -25,9 +25,7 @@ impl Caller {
     pub(crate) fn watch<R: Wait>(&mut self, rt: &R)
         ensures { caller_of self.new ≡ caller_of self.old }
     {
-        if !self.pause.spin() && !self.pause.lie_down() {
-            self.pause.doze(rt);
-        }
+        self.pause.watch(rt);
     }
 }
 

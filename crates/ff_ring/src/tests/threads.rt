@@ -150,9 +150,8 @@ fn waits(rt: &impl Wait, mut inn: RingIn<u64>, mut pause: Pause) -> bool {
         if let Some(m) = inn.try_take() {
             return matches!(m, Msg::Eos);
         }
-        if !pause.spin() && !pause.lie_down() {
-            pause.park(rt);
-        }
+        // Nothing waits to be handed over.
+        let _ = pause.rest(rt);
     }
     unreachable!()
 }

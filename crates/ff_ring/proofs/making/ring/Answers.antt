@@ -15,7 +15,6 @@ returns-clause-made g c =
     record {
       size = search rules;
       count = search rules;
-      eager = search rules;
       some = omega (arith, room, bundle_count-from_one c.args.cap c.requires.some);
       more = λ h. (bundle_count-from_two c.args.cap h, omega (arith, room, bundle_count-from_two c.args.cap h));
     }
