@@ -17,7 +17,8 @@ mod number_op;
 mod op;
 mod ordered_op;
 mod row;
-mod table;mod totals;
+mod table;
+mod totals;
 
 pub use arg::{Arg, ArgKind};
 pub use counts::Counts;
