@@ -51,7 +51,7 @@ pub struct Meets {
 
 // What it does is the same whatever the flags say.
 impl Model for Meets {
-    ghost use Rattle.ff_engine.specs.declared.tests.meeting.Place.{Place};
+    ghost use Rattle.ff_engine_tests.specs.declared.tests.meeting.Place.{Place};
 
     ghost Value = { Place };
 
