@@ -14,6 +14,8 @@ use Rattle.ff_ring.specs.Names.{RingName}
 use Rattle.ff_ring.specs.declared.ring_in.RingIn.{RingIn}
 use Rattle.ff_ring.specs.declared.ring_out.RingOut.{RingOut}
 use Rattle.ff_engine.specs.Slots.{EachKept}
+use Rattle.ff_engine.specs.declared.delivery.Delivery.{Delivery}
+use Rattle.ff_engine.specs.declared.delivery.Delivery.TheVariants.{Prompt, Gathered}
 
 -- the two ends of a ring over which nothing went
 pub record IsFreshRing (inn : RingIn Rec) (out : RingOut Rec) : Type 0 where
@@ -27,27 +29,32 @@ IsFreshPair (Some inn) (Some out) = IsFreshRing inn out
 IsFreshPair (Some inn) None = ⊥
 IsFreshPair None out = ⊥
 
--- whether a unit hands over at once what its reader lacks: one that runs nodes may take long for its next record, and each
--- worker of a wrap waits for its next task; all other units hand over what waits before they pause
-abbrev pub hurries : UnitKind → Bool
-hurries Stage = true
-hurries Master = true
-hurries Worker = true
-hurries _ = false
+-- whether a unit that runs a node hands over at once what its reader lacks
+abbrev pub is_prompt : Delivery → Bool
+is_prompt Prompt = true
+is_prompt Gathered = false
 
-abbrev pub row_hurries : Option Row → Bool
-row_hurries None = true
-row_hurries (Some row) = hurries row.kind
+-- whether a unit does so: the master and each worker of a wrap wait for each other; all other units hand over what waits
+-- before they pause
+abbrev pub hurries : Delivery → UnitKind → Bool
+hurries delivery Stage = is_prompt delivery
+hurries delivery Master = true
+hurries delivery Worker = true
+hurries delivery _ = false
+
+abbrev pub row_hurries : Delivery → Option Row → Bool
+row_hurries delivery None = true
+row_hurries delivery (Some row) = hurries delivery row.kind
 
 -- whether the writer of an edge does so; the caller hands over behind each piece of its input
-abbrev pub writer_hurries : List Row → Party → Bool
-writer_hurries rows Caller = false
-writer_hurries rows (OfUnit number) = row_hurries (slice_get rows number)
+abbrev pub writer_hurries : Delivery → List Row → Party → Bool
+writer_hurries delivery rows Caller = false
+writer_hurries delivery rows (OfUnit number) = row_hurries delivery (slice_get rows number)
 
 -- an edge's ring is as long as the edge, and its writer hands over as it is to
-abbrev pub IsRingOf : List Row → Edge → Option (RingOut Rec) → Type 0
-IsRingOf rows edge None = ⊥
-IsRingOf rows edge (Some out) = IsMade edge.cap out × (is_eager out ≡ writer_hurries rows edge.writer)
+abbrev pub IsRingOf : Delivery → List Row → Edge → Option (RingOut Rec) → Type 0
+IsRingOf delivery rows edge None = ⊥
+IsRingOf delivery rows edge (Some out) = IsMade edge.cap out × (is_eager out ≡ writer_hurries delivery rows edge.writer)
 
 -- nothing went over the rings of these ends
 pub record AreFresh (ins : List (Option (RingIn Rec))) (outs : List (Option (RingOut Rec))) : Type 0 where

@@ -6,6 +6,7 @@ ghost use Rattle.ff_ring.specs.Ends.{got_of, put_of, read_ring, written_ring};
 ghost use Rattle.ff_engine.specs.Boards.{IsFreshPair, IsRingOf, IsFirst, writer_hurries, gots_on, puts_on, reads_on, writes_on};
 ghost use Rattle.ff_engine.specs.Slots.{slot};
 
+use crate::Delivery;
 use crate::bells::Bells;
 use ff_plan::{Edge, Party, UnitKind, UnitRow};
 use ff_rec::{NoMemory, Record};
@@ -24,6 +25,7 @@ pub(crate) struct Board {
 /// A ring for each of these edges of the units of these rows, between the bells of its writer and its reader.
 pub(crate) fn make_rings(
     alloc: Global,
+    delivery: Delivery,
     rows: &[UnitRow],
     edges: &[Edge],
     bells: &Bells,
@@ -32,7 +34,7 @@ pub(crate) fn make_rings(
     requires high { All (λ edge. edge.cap ≤ 4096) edges.now }
     ensures fresh { IfOk result (λ board. AllZip IsFreshPair board.ins.items board.outs.items) }
     ensures count { IfOk result (λ board. length board.ins.items ≡ length edges.now) }
-    ensures caps { IfOk result (λ board. AllZip (IsRingOf rows.now) edges.now board.outs.items) }
+    ensures caps { IfOk result (λ board. AllZip (IsRingOf delivery rows.now) edges.now board.outs.items) }
 {
     let mut ins = Vec::new(alloc);
     let mut outs = Vec::new(alloc);
@@ -40,7 +42,7 @@ pub(crate) fn make_rings(
         let writer = Arc::try_clone(bells.of(edge.writer))?;
         let reader = Arc::try_clone(bells.of(edge.reader))?;
         let (mut out, inn) = ring(alloc, edge.cap as usize, writer, reader)?;
-        out.set_eager(hurries(edge.writer, rows));
+        out.set_eager(hurries(delivery, edge.writer, rows));
         ins.push(Some(inn))?;
         outs.push(Some(out))?;
     }
@@ -48,19 +50,20 @@ pub(crate) fn make_rings(
 }
 
 // Whether the writer of an edge hands over as soon as its reader has taken all else, and not only full bundles and what waits
-// before a pause. A unit that runs a node does, which may take long for its next record, and the master of a wrap, for whose
-// tasks the workers wait. The others are at their next message at once, and a hand-over for each one would cost them more.
-fn hurries(writer: Party, rows: &[UnitRow]) -> bool
-    ensures { result ≡ writer_hurries rows.now writer }
+// before a pause. A unit that runs a node does where that is asked for, and the master and the workers of a wrap do, who wait for each
+// other's next message. The others are at their next message at once, and a hand-over for each one would cost them more.
+fn hurries(delivery: Delivery, writer: Party, rows: &[UnitRow]) -> bool
+    ensures { result ≡ writer_hurries delivery rows.now writer }
 {
     let Party::Unit(number) = writer else {
         return false;
     };
     match rows.get(number as usize) {
-        Some(row) => matches!(
-            row.kind,
-            UnitKind::Stage | UnitKind::Master | UnitKind::Worker
-        ),
+        Some(row) => match row.kind {
+            UnitKind::Stage => matches!(delivery, Delivery::Prompt),
+            UnitKind::Master | UnitKind::Worker => true,
+            _ => false,
+        },
         None => true,
     }
 }

@@ -5,6 +5,7 @@ mod bells;
 mod board;
 mod caller;
 mod crew;
+mod delivery;
 mod fault;
 mod finishing;
 mod laws;
@@ -21,6 +22,7 @@ mod slots;
 mod starting;
 mod stepping;
 
+pub use delivery::Delivery;
 pub use fault::NetFault;
 pub use ff_steps::NetUnit;
 pub use net_job::NetJob;

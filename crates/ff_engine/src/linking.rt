@@ -6,10 +6,10 @@ ghost use Rattle.ff_engine.specs.Jobs.{IsFresh, IsOpened};
 ghost use Rattle.ff_engine.specs.Lines.{IsWired, Linked};
 ghost use Rattle.ff_engine.specs.Slots.{Holds, slot};
 
-use crate::NetJob;
 use crate::bells::Bells;
 use crate::board::{Board, make_rings};
 use crate::making::make_jobs;
+use crate::{Delivery, NetJob};
 use ff_plan::{Edge, UnitRow};
 use ff_rec::{NoMemory, Record};
 use ff_ring::{RingIn, RingOut};
@@ -27,6 +27,7 @@ pub(crate) struct Network<U: Unit, R> {
 /// Jobs of these units over rings: one for each edge of their plan.
 pub(crate) fn link_units<U: Unit, R: Clone + Drop>(
     alloc: Global,
+    delivery: Delivery,
     units: Vec<U>,
     rows: Vec<UnitRow>,
     edges: &[Edge],
@@ -46,7 +47,7 @@ pub(crate) fn link_units<U: Unit, R: Clone + Drop>(
     ensures ins { IfOk result (λ n. length n.board.ins.items ≡ length edges.now) }
     ensures outs { IfOk result (λ n. length n.board.outs.items ≡ length edges.now) }
 {
-    let mut board = make_rings(alloc, &rows, edges, bells)?;
+    let mut board = make_rings(alloc, delivery, &rows, edges, bells)?;
     let (first, last) = take_outer(&mut board);
     let jobs = make_jobs(alloc, units, rows, bells, rt, &mut board)?;
     Ok(Network {

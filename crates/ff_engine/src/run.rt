@@ -13,7 +13,7 @@ use crate::laws::plans_keep_laws;
 use crate::line::Line;
 use crate::running::run_line;
 use crate::starting::{prepare, start};
-use crate::{NetFault, NetJob};
+use crate::{Delivery, NetFault, NetJob};
 use ff_io::{Sink, Source};
 use ff_net::Checked;
 use ff_node::Node;
@@ -25,7 +25,7 @@ use std::sync::Wait;
 
 /// Runs a network over the records of a source, each of its units in a thread of its own, and writes the text of what it
 /// sends to a sink: as the records come, or with a wrap once all units have ended. A wrap may have `limit` tasks. Each ring
-/// between two threads holds about `cap` messages. Threads wait by `rt`.
+/// between two threads holds about `cap` messages, which `delivery` says when to hand over. Threads wait by `rt`.
 pub fn run_net<
     N: Node + Send + 'static,
     R: Wait + Clone + Drop + Send + 'static,
@@ -37,6 +37,7 @@ pub fn run_net<
     alloc: Global,
     checked: &Checked<N>,
     cap: u32,
+    delivery: Delivery,
     limit: u64,
     keep: bool,
     source: &mut I,
@@ -58,7 +59,7 @@ pub fn run_net<
     ensures output_faults { O.faults sink.new ≡ net_output_count (O.faults sink.old) result }
 {
     plans_keep_laws(checked);
-    let Ok(prepared) = prepare(rt, alloc, checked, cap, limit, keep) else {
+    let Ok(prepared) = prepare(rt, alloc, checked, cap, delivery, limit, keep) else {
         return Err(NetFault::Run(RunFault::NoMemory));
     };
     match start(rt, alloc, prepared, spawner) {

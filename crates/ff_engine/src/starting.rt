@@ -7,13 +7,13 @@ ghost use Rattle.ff_engine.specs.Lines.{IsWired};
 ghost use Rattle.ff_engine.specs.Starts.{IsPrepared};
 ghost use Rattle.ff_engine.specs.Seen.{caller_of};
 
-use crate::NetJob;
 use crate::bells::Bells;
 use crate::caller::Caller;
 use crate::crew::Crew;
 use crate::laws::{plans_are_wired, plans_keep_laws};
 use crate::linking::{Network, link_units};
 use crate::prepared::Prepared;
+use crate::{Delivery, NetJob};
 use ff_net::Checked;
 use ff_node::Node;
 use ff_plan::{Queue, plan};
@@ -31,6 +31,7 @@ pub(crate) fn prepare<N: Node + Send + 'static, R: Wait + Clone + Drop + Send + 
     alloc: Global,
     checked: &Checked<N>,
     cap: u32,
+    delivery: Delivery,
     limit: u64,
     keep: bool,
 ) -> Result<Prepared<NetUnit<N>, R>, NoMemory>
@@ -46,7 +47,7 @@ pub(crate) fn prepare<N: Node + Send + 'static, R: Wait + Clone + Drop + Send + 
     let room = Vec::with_capacity(alloc, units.len())?;
     let bells = Bells::new(alloc, units.len())?;
     let (rows, edges) = plan(alloc, checked, cap, Queue::Ring)?.into_parts();
-    let network = link_units(alloc, units, rows, &edges, &bells, rt)?;
+    let network = link_units(alloc, delivery, units, rows, &edges, &bells, rt)?;
     let Network {
         first,
         jobs,

@@ -12,7 +12,7 @@ use crate::sink::HeldSink;
 use crate::source::SoakSource;
 use crate::tally::summarize;
 use crate::{SoakFault, Summary};
-use ff_engine::{NetFault, NetJob, NetUnit, run_net};
+use ff_engine::{Delivery, NetFault, NetJob, NetUnit, run_net};
 use ff_ops::Op;
 use ff_spawn::Spawner;
 use ff_stream::RunFault;
@@ -53,6 +53,7 @@ pub fn soak<R: Wait + Clone + Drop + Send + 'static, S: Spawner<NetJob<NetUnit<O
         alloc,
         &checked,
         cap,
+        Delivery::Gathered,
         NO_TASKS,
         false,
         &mut source,

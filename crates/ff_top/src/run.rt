@@ -10,7 +10,7 @@ ghost use Rattle.ff_top.specs.Texts.{version};
 use crate::devices::{Devices, Seen};
 use crate::rejects::store_rejects;
 use crate::run_cause::RunCause;
-use ff_engine::{NetFault, NetJob, NetUnit, run_net};
+use ff_engine::{Delivery, NetFault, NetJob, NetUnit, run_net};
 use ff_io::{Files, Sink, Source};
 use ff_net::Checked;
 use ff_ops::Op;
@@ -99,11 +99,13 @@ fn answer<
     }
     // The words allow no other size. The clamp tells the prover so.
     let cap = order.cap.clamp(1, 4096);
+    // No operation waits for another one, and each takes next to no time for a record.
     run_net(
         rt,
         alloc,
         checked,
         cap,
+        Delivery::Gathered,
         order.tasks,
         keep,
         input,

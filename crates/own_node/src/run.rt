@@ -8,7 +8,7 @@ ghost use Rattle.own_node.specs.Network.{own_net};
 ghost use Rattle.own_node.specs.Own.{own_node};
 
 use crate::own::Own;
-use ff_engine::{NetFault, NetJob, NetUnit, run_net};
+use ff_engine::{Delivery, NetFault, NetJob, NetUnit, run_net};
 use ff_io::{Sink, Source};
 use ff_net::{Checked, Version};
 use ff_spawn::Spawner;
@@ -36,5 +36,16 @@ pub fn widest_line<
         (streams I.left I.ended I.faults O.taken source.old source.new sink.old sink.new) result }
 {
     // No wrap stands in it, and so it has no tasks.
-    run_net(rt, alloc, checked, 512, 0, false, source, sink, spawner)
+    run_net(
+        rt,
+        alloc,
+        checked,
+        512,
+        Delivery::Prompt,
+        0,
+        false,
+        source,
+        sink,
+        spawner,
+    )
 }

@@ -1,6 +1,6 @@
 // Networks by threads.
 use super::meeting::{Flags, Meets, Place};
-use ff_engine::{NetFault, run_net};
+use ff_engine::{Delivery, NetFault, run_net};
 use ff_io::{MemSink, MemSource, Source};
 use ff_net::{Checked, Net, Route, Sched, Test, Version, check};
 use ff_rec::{Cmp, LineFault};
@@ -13,8 +13,15 @@ use std::sync::{Arc, Wait};
 use std::test::Fail;
 use std::thread;
 
-// The sizes of rings.
-pub const CAPS: [u32; 5] = [1, 2, 64, 512, 4096];
+// The sizes of rings, each with when stages hand over.
+pub const RINGS: [(u32, Delivery); 6] = [
+    (1, Delivery::Prompt),
+    (2, Delivery::Gathered),
+    (64, Delivery::Prompt),
+    (64, Delivery::Gathered),
+    (512, Delivery::Prompt),
+    (4096, Delivery::Gathered),
+];
 
 // How a run ends.
 #[derive(Clone, Copy, Debug, PartialEq, Eq)]
@@ -69,7 +76,7 @@ fn compare<R: thread::Threads + Wait + Abort + Clone + Drop + Send + 'static>(
     rt: &R,
     alloc: Global,
     net: &Checked<Gate>,
-    cap: u32,
+    (cap, delivery): (u32, Delivery),
     case: Case,
 ) -> Result<(), Fail> {
     let bytes = Vec::from_slice(alloc, case.input)?;
@@ -82,6 +89,7 @@ fn compare<R: thread::Threads + Wait + Abort + Clone + Drop + Send + 'static>(
         alloc,
         net,
         cap,
+        delivery,
         1,
         true,
         &mut source,
@@ -102,7 +110,7 @@ fn compare<R: thread::Threads + Wait + Abort + Clone + Drop + Send + 'static>(
 fn runs_of_every_end(rt: HostRuntime) -> Result<(), Fail> {
     let alloc = rt.alloc();
     let net = checked(gates(alloc)?)?;
-    for cap in CAPS {
+    for ring in RINGS {
         for (input, fails, budget, kind, out, rejected) in [
             (
                 b"1\n2\ta\n\n345".as_slice(),
@@ -126,7 +134,7 @@ fn runs_of_every_end(rt: HostRuntime) -> Result<(), Fail> {
                 out,
                 rejected,
             };
-            compare(&rt, alloc, &net, cap, case)?;
+            compare(&rt, alloc, &net, ring, case)?;
         }
     }
     Ok(())
@@ -147,6 +155,7 @@ fn refused_starts(rt: HostRuntime) -> Result<(), Fail> {
             alloc,
             &net,
             2,
+            Delivery::Prompt,
             1,
             true,
             &mut source,
@@ -183,6 +192,7 @@ fn meet_line(rt: HostRuntime) -> Result<(), Fail> {
         alloc,
         &net,
         512,
+        Delivery::Prompt,
         1,
         true,
         &mut source,
@@ -263,6 +273,7 @@ fn meet_copies(rt: HostRuntime) -> Result<(), Fail> {
             alloc,
             &net,
             512,
+            Delivery::Prompt,
             1000,
             true,
             &mut source,

@@ -4,7 +4,7 @@ ghost use Rattle.std.specs.Io.KnownBytes.{ReadConsumes, WriteAppends};
 ghost use Rattle.ff_io.specs.Bytes.{is_end};
 ghost use Rattle.ff_io.specs.Faults.{HasCause, count_after};
 
-use super::runs::{CAPS, DONE, checked, gates, summary};
+use super::runs::{DONE, RINGS, checked, gates, summary};
 use crossbeam_utils::atomic::AtomicCell;
 use ff_engine::run_net;
 use ff_io::{Failed, MemSink, MemSource, Sink, Source};
@@ -64,7 +64,7 @@ impl<S: Source> Source for Noting<S> {
 fn results_are_shown_before_the_next_read(rt: HostRuntime) -> Result<(), Fail> {
     let alloc = rt.alloc();
     let net = checked(gates(alloc)?)?;
-    for cap in CAPS {
+    for (cap, delivery) in RINGS {
         let taken = Arc::new(alloc, AtomicCell::new(0))?;
         let bytes = Vec::from_slice(alloc, b"1\n2\n3\n4\n5\n6\n7\n8\n")?;
         let mut source = Noting {
@@ -85,6 +85,7 @@ fn results_are_shown_before_the_next_read(rt: HostRuntime) -> Result<(), Fail> {
             alloc,
             &net,
             cap,
+            delivery,
             1,
             true,
             &mut source,

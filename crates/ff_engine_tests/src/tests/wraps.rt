@@ -1,6 +1,6 @@
 // Networks with a wrap by threads.
-use super::runs::{CAPS, DONE, Kind, checked, summary};
-use ff_engine::{NetFault, run_net};
+use super::runs::{DONE, Kind, RINGS, checked, summary};
+use ff_engine::{Delivery, NetFault, run_net};
 use ff_io::{MemSink, MemSource, Source};
 use ff_net::{Checked, Net, Test};
 use ff_rec::Cmp;
@@ -34,7 +34,7 @@ fn wrapped(alloc: Global) -> Result<Checked<Gate>, Fail> {
 fn wraps_of_every_end(rt: HostRuntime) -> Result<(), Fail> {
     let alloc = rt.alloc();
     let net = wrapped(alloc)?;
-    for cap in CAPS {
+    for (cap, delivery) in RINGS {
         // The input, the read that fails, what the sink takes in all, and the limit; then how the run ends, what the sink
         // took, and how many records were rejected.
         for (input, fails, budget, limit, kind, out, rejected) in [
@@ -67,6 +67,7 @@ fn wraps_of_every_end(rt: HostRuntime) -> Result<(), Fail> {
                 alloc,
                 &net,
                 cap,
+                delivery,
                 limit,
                 true,
                 &mut source,
@@ -100,6 +101,7 @@ fn refused_starts_of_a_wrap(rt: HostRuntime) -> Result<(), Fail> {
             alloc,
             &net,
             2,
+            Delivery::Gathered,
             1000,
             true,
             &mut source,

@@ -9,16 +9,17 @@ use Rattle.ff_plan.specs.Rows.{Row}
 use Rattle.ff_plan.specs.declared.layout.Edge.{Edge}
 use Rattle.ff_ring.specs.declared.ring_out.RingOut.{RingOut}
 use Rattle.ff_engine.specs.Boards.{IsFreshPair, IsRingOf}
+use Rattle.ff_engine.specs.declared.delivery.Delivery.{Delivery}
 use Rattle.ff_engine.proofs.board.make_rings.Goals as goal
 
 -- the ring of one edge more
-AllZip-more : (rows : List Row) (edges : List Edge) (i : ℕ) (d : Edge) (outs outs' : List (Option (RingOut Rec))) (out : RingOut Rec) → i < length edges
-    → AllZip (IsRingOf rows) (take i edges) outs → outs' ≡ outs ++ Some out ∷ [] → IsRingOf rows (get_or edges i d) (Some out)
-    → AllZip (IsRingOf rows) (take (i + 1) edges) outs'
-AllZip-more rows edges i d outs outs' out within caps is made =
-    subst (λ es. AllZip (IsRingOf rows) es outs') (sym (take_more edges i d within))
-    (subst (AllZip (IsRingOf rows) (take i edges ++ get_or edges i d ∷ [])) (sym is)
-    (all_zipped_more (IsRingOf rows) (take i edges) outs (get_or edges i d) (Some out) caps made))
+AllZip-more : (delivery : Delivery) (rows : List Row) (edges : List Edge) (i : ℕ) (d : Edge) (outs outs' : List (Option (RingOut Rec))) (out : RingOut Rec) → i < length edges
+    → AllZip (IsRingOf delivery rows) (take i edges) outs → outs' ≡ outs ++ Some out ∷ [] → IsRingOf delivery rows (get_or edges i d) (Some out)
+    → AllZip (IsRingOf delivery rows) (take (i + 1) edges) outs'
+AllZip-more delivery rows edges i d outs outs' out within caps is made =
+    subst (λ es. AllZip (IsRingOf delivery rows) es outs') (sym (take_more edges i d within))
+    (subst (AllZip (IsRingOf delivery rows) (take i edges ++ get_or edges i d ∷ [])) (sym is)
+    (all_zipped_more (IsRingOf delivery rows) (take i edges) outs (get_or edges i d) (Some out) caps made))
 
 pub loop-edge-preserved : goal.loop-edge-preserved
 loop-edge-preserved c =
@@ -33,6 +34,6 @@ loop-edge-preserved c =
           (all_zipped_more IsFreshPair ins outs (Some inn) (Some out) c.loop-edge.invariant.fresh
           (record { pair = made.pair ∙ sym set.link; got = made.got.0; put = set.put ∙ made.put; room = subst (λ n. 0 < n) (sym set.room) made.made.some })));
       count = ap length c.in_ok-push.ensures.items ∙ length_push ins (Some inn) ∙ ap (λ n. n + 1) c.loop-edge.invariant.count;
-      caps = AllZip-more c.args.rows.now c.args.edges.now c.loop-edge.edge-index _ outs _ out c.loop-edge-test.true c.loop-edge.invariant.caps
+      caps = AllZip-more c.args.delivery c.args.rows.now c.args.edges.now c.loop-edge.edge-index _ outs _ out c.loop-edge-test.true c.loop-edge.invariant.caps
           c.in_ok-push-2.ensures.items (set.made _ made.made, set.eager ∙ c.hurries.ensures);
     }

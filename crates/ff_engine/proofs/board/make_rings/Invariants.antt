@@ -8,5 +8,5 @@ abbrev pub invariant-loop-edge : goal.invariant-loop-edge
 invariant-loop-edge l = record {
   fresh : AllZip IsFreshPair l.ins.items l.outs.items;
   count : length l.ins.items ≡ l.edge-index;
-  caps : AllZip (IsRingOf l.rows) (take l.edge-index l.edges) l.outs.items;
+  caps : AllZip (IsRingOf l.delivery l.rows) (take l.edge-index l.edges) l.outs.items;
 }
