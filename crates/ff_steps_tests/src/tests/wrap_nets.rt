@@ -13,10 +13,10 @@ pub(super) enum Form {
     Alone(u32),
     // One of two workers between two nodes that send all on.
     Between,
-    // A node that gives up at "3" before one of two workers.
-    Broken,
-    // One of two workers that give up at "1".
-    Weak,
+    // A node that gives up at this number before one of two workers.
+    Broken(i64),
+    // One of two workers that give up at this number.
+    Weak(i64),
 }
 
 // The test of the first field for this number.
@@ -81,10 +81,10 @@ pub(super) fn network(alloc: Global, form: Form) -> Result<Net<Doubling>, Fail> 
             let middle = wrap(alloc, 2, still(alloc)?)?;
             Net::Pipe(vec![in alloc; still(alloc)?, middle, still(alloc)?]?)
         }
-        Form::Broken => {
+        Form::Broken(at) => {
             let last = wrap(alloc, 2, still(alloc)?)?;
-            Net::Pipe(vec![in alloc; giving_up(alloc, 3)?, last]?)
+            Net::Pipe(vec![in alloc; giving_up(alloc, at)?, last]?)
         }
-        Form::Weak => wrap(alloc, 2, giving_up(alloc, 1)?)?,
+        Form::Weak(at) => wrap(alloc, 2, giving_up(alloc, at)?)?,
     })
 }

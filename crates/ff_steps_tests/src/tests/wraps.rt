@@ -1,4 +1,4 @@
-// A thousand random schedules of each of four networks with feedback.
+// A thousand random schedules of each of four networks with feedback, and of some that are cut off.
 use super::doubling::Doubling;
 use super::records;
 use super::seen::{output, random, rejects};
@@ -115,21 +115,32 @@ fn a_wrap_between_two_nodes(rt: HostRuntime) -> Result<(), Fail> {
     all_end(&rt, rt.alloc(), Form::Between, TASKS + 1)
 }
 
-// Where a node or a worker gives up, Abort goes on to all, and all end.
-#[test]
-fn a_wrap_that_is_cut_off(rt: HostRuntime) -> Result<(), Fail> {
-    for form in [Form::Broken, Form::Weak] {
-        for cap in [1, 2, 64] {
+// Where a node before the wrap or a worker gives up, Abort goes on to all, and all end.
+fn all_are_cut_off(rt: &impl Abort, alloc: Global, form: Form) -> Result<(), Fail> {
+    for cap in [1, 2, 64] {
+        for seed in 1..49 {
             let run = Run {
                 form,
                 cap,
                 limit: 1000,
-                seed: 7,
+                seed,
             };
-            let mut core = opened(&rt, rt.alloc(), run)?;
+            let mut core = opened(rt, alloc, run)?;
             assert!(rt; runs(&mut core, run), "{run:?}");
             assert!(rt; core.short_of_memory() && !core.over(), "{run:?}");
         }
+    }
+    Ok(())
+}
+
+// An Abort from each side, at the first record and at later ones, and at tasks that workers spawned: a thousand schedules.
+#[test]
+fn a_wrap_that_is_cut_off(rt: HostRuntime) -> Result<(), Fail> {
+    for at in [5, 7, 3] {
+        all_are_cut_off(&rt, rt.alloc(), Form::Broken(at))?;
+    }
+    for at in [5, 7, 3, 1] {
+        all_are_cut_off(&rt, rt.alloc(), Form::Weak(at))?;
     }
     Ok(())
 }
