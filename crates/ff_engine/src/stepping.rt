@@ -23,22 +23,30 @@ pub(crate) fn run_unit<U: Unit, P: Ports<Record>, R: Wait>(
     ensures told { U.does.told unit.new ≡ U.does.told unit.old }
     ensures link { P.link ports.new ≡ P.link ports.old }
 {
+    let mut moved = false;
     for _ in rt.forever() {
         match unit.step(ports) {
-            Step::Moved => pause.reset(),
-            Step::Waits => wait(ports, pause, rt),
+            Step::Moved => {
+                pause.reset();
+                moved = true;
+            }
+            Step::Waits => {
+                wait(moved, ports, pause, rt);
+                moved = false;
+            }
             Step::Ended(_) => return,
         }
     }
 }
 
-// Waits for the other ends.
-fn wait<P: Ports<Record>, R: Wait>(ports: &mut P, pause: &mut Pause, rt: &R)
+// Waits for the other ends. Where the unit moved since the last time, it hands over what waits and tries again at once: a
+// reader may wait for just that, and so for its answer this unit.
+fn wait<P: Ports<Record>, R: Wait>(moved: bool, ports: &mut P, pause: &mut Pause, rt: &R)
     ensures gots { P.gots ports.new ≡ P.gots ports.old }
     ensures puts { P.puts ports.new ≡ P.puts ports.old }
     ensures link { P.link ports.new ≡ P.link ports.old }
 {
-    if pause.rest(rt) {
+    if moved || pause.rest(rt) {
         ports.flush();
     }
 }
