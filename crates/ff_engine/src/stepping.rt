@@ -1,5 +1,6 @@
 // How a unit is stepped in a thread of its own.
-ghost use Rattle.std.specs.Prelude.{◌≡◌, true};
+ghost use Rattle.std.specs.Prelude.{◌≡◌, ◌↔◌, true, IsTrue, IsSome, IfSome};
+ghost use Rattle.ff_ring.specs.Pauses.{lies_next};
 ghost use Rattle.ff_unit.specs.Units.{Ran};
 
 use ff_port::{Ports, Step};
@@ -40,13 +41,23 @@ pub(crate) fn run_unit<U: Unit, P: Ports<Record>, R: Wait>(
 }
 
 // Waits for the other ends. Where the unit moved since the last time, it hands over what waits and tries again at once: a
-// reader may wait for just that, and so for its answer this unit.
-fn wait<P: Ports<Record>, R: Wait>(moved: bool, ports: &mut P, pause: &mut Pause, rt: &R)
+// reader may wait for just that, and so for its answer this unit. It also hands over where the thread lies down. The answer is
+// whether nothing is left then, which only a flush can tell.
+fn wait<P: Ports<Record>, R: Wait>(
+    moved: bool,
+    ports: &mut P,
+    pause: &mut Pause,
+    rt: &R,
+) -> Option<bool>
     ensures gots { P.gots ports.new ≡ P.gots ports.old }
     ensures puts { P.puts ports.new ≡ P.puts ports.old }
     ensures link { P.link ports.new ≡ P.link ports.old }
+    ensures moved { moved ≡ true → IsSome result }
+    ensures lies { lies_next pause.old ≡ true → IsSome result }
+    ensures left { IfSome result (λ all. IsTrue all ↔ (P.waiting ports.new ≡ 0)) }
 {
     if moved || pause.rest(rt) {
-        ports.flush();
+        return Some(ports.flush());
     }
+    None
 }
