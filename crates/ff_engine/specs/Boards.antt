@@ -7,9 +7,9 @@ use Rattle.ff_plan.specs.Rows.{Row}
 use Rattle.ff_plan.specs.declared.kind.Party.{Party}
 use Rattle.ff_plan.specs.declared.kind.Party.TheVariants.{Caller, Unit as OfUnit}
 use Rattle.ff_plan.specs.declared.kind.UnitKind.{UnitKind}
-use Rattle.ff_plan.specs.declared.kind.UnitKind.TheVariants.{Stage, Master, Worker}
+use Rattle.ff_plan.specs.declared.kind.UnitKind.TheVariants.{Stage, Master}
 use Rattle.ff_plan.specs.declared.layout.Edge.{Edge}
-use Rattle.ff_ring.specs.Ends.{got_of, put_of, room_of, is_eager, read_ring, written_ring, IsMade}
+use Rattle.ff_ring.specs.Ends.{got_of, put_of, room_of, is_eager, is_eager_in, read_ring, written_ring, IsMade}
 use Rattle.ff_ring.specs.Names.{RingName}
 use Rattle.ff_ring.specs.declared.ring_in.RingIn.{RingIn}
 use Rattle.ff_ring.specs.declared.ring_out.RingOut.{RingOut}
@@ -34,12 +34,10 @@ abbrev pub is_prompt : Delivery → Bool
 is_prompt Prompt = true
 is_prompt Gathered = false
 
--- whether a unit does so: the master and each worker of a wrap wait for each other; all other units hand over what waits
--- before they pause
+-- whether a unit does so: the workers of a wrap wait for their master; all other units hand over what waits before they pause
 abbrev pub hurries : Delivery → UnitKind → Bool
 hurries delivery Stage = is_prompt delivery
 hurries delivery Master = true
-hurries delivery Worker = true
 hurries delivery _ = false
 
 abbrev pub row_hurries : Delivery → Option Row → Bool
@@ -55,6 +53,16 @@ writer_hurries delivery rows (OfUnit number) = row_hurries delivery (slice_get r
 abbrev pub IsRingOf : Delivery → List Row → Edge → Option (RingOut Rec) → Type 0
 IsRingOf delivery rows edge None = ⊥
 IsRingOf delivery rows edge (Some out) = IsMade edge.cap out × (is_eager out ≡ writer_hurries delivery rows edge.writer)
+
+-- whether the writer of an edge is told of each block that comes back: where nodes may take long, and where it hurries
+abbrev pub writer_is_told : Delivery → List Row → Party → Bool
+writer_is_told Prompt rows writer = true
+writer_is_told Gathered rows writer = writer_hurries Gathered rows writer
+
+-- an edge's ring is read by an end that tells the writer as it is to
+abbrev pub IsReadAs : Delivery → List Row → Edge → Option (RingIn Rec) → Type 0
+IsReadAs delivery rows edge None = ⊥
+IsReadAs delivery rows edge (Some inn) = is_eager_in inn ≡ writer_is_told delivery rows edge.writer
 
 -- nothing went over the rings of these ends
 pub record AreFresh (ins : List (Option (RingIn Rec))) (outs : List (Option (RingOut Rec))) : Type 0 where

@@ -3,7 +3,7 @@ ghost use Rattle.std.specs.Prelude.{◌≡◌, ◌≤◌, length, All, IfOk, OnO
 ghost use Rattle.std.specs.List.{AllZip};
 ghost use Rattle.std.specs.Option.{option_map};
 ghost use Rattle.ff_ring.specs.Ends.{got_of, put_of, read_ring, written_ring};
-ghost use Rattle.ff_engine.specs.Boards.{IsFreshPair, IsRingOf, IsFirst, writer_hurries, gots_on, puts_on, reads_on, writes_on};
+ghost use Rattle.ff_engine.specs.Boards.{IsFreshPair, IsRingOf, IsReadAs, IsFirst, writer_hurries, writer_is_told, gots_on, puts_on, reads_on, writes_on};
 ghost use Rattle.ff_engine.specs.Slots.{slot};
 
 use crate::Delivery;
@@ -35,14 +35,16 @@ pub(crate) fn make_rings(
     ensures fresh { IfOk result (λ board. AllZip IsFreshPair board.ins.items board.outs.items) }
     ensures count { IfOk result (λ board. length board.ins.items ≡ length edges.now) }
     ensures caps { IfOk result (λ board. AllZip (IsRingOf delivery rows.now) edges.now board.outs.items) }
+    ensures told { IfOk result (λ board. AllZip (IsReadAs delivery rows.now) edges.now board.ins.items) }
 {
     let mut ins = Vec::new(alloc);
     let mut outs = Vec::new(alloc);
     for edge in edges {
         let writer = Arc::try_clone(bells.of(edge.writer))?;
         let reader = Arc::try_clone(bells.of(edge.reader))?;
-        let (mut out, inn) = ring(alloc, edge.cap as usize, writer, reader)?;
+        let (mut out, mut inn) = ring(alloc, edge.cap as usize, writer, reader)?;
         out.set_eager(hurries(delivery, edge.writer, rows));
+        inn.set_eager(is_told(delivery, edge.writer, rows));
         ins.push(Some(inn))?;
         outs.push(Some(out))?;
     }
@@ -50,8 +52,8 @@ pub(crate) fn make_rings(
 }
 
 // Whether the writer of an edge hands over as soon as its reader has taken all else, and not only full bundles and what waits
-// before a pause. A unit that runs a node does where that is asked for, and the master and the workers of a wrap do, who wait for each
-// other's next message. The others are at their next message at once, and a hand-over for each one would cost them more.
+// before a pause. A unit that runs a node does where that is asked for, and the master of a wrap does, whose workers wait for their next
+// task. The others are at their next message or at their pause at once, and a hand-over for each message would cost them more.
 fn hurries(delivery: Delivery, writer: Party, rows: &[UnitRow]) -> bool
     ensures { result ≡ writer_hurries delivery rows.now writer }
 {
@@ -61,11 +63,19 @@ fn hurries(delivery: Delivery, writer: Party, rows: &[UnitRow]) -> bool
     match rows.get(number as usize) {
         Some(row) => match row.kind {
             UnitKind::Stage => matches!(delivery, Delivery::Prompt),
-            UnitKind::Master | UnitKind::Worker => true,
+            UnitKind::Master => true,
             _ => false,
         },
         None => true,
     }
+}
+
+// Whether the writer of an edge is told of each block that comes back, and not only of those of half a ring. A node that takes long, or
+// waits for another one, would leave a writer asleep that has room.
+fn is_told(delivery: Delivery, writer: Party, rows: &[UnitRow]) -> bool
+    ensures { result ≡ writer_is_told delivery rows.now writer }
+{
+    matches!(delivery, Delivery::Prompt) || hurries(delivery, writer, rows)
 }
 
 /// Settles all rings, once their threads have ended.

@@ -10,6 +10,7 @@ use Rattle.ff_ring.specs.declared.ring_out.RingOut.{RingOut}
 use Rattle.ff_ring.specs.Bundles.{ahead_of}
 use Rattle.ff_ring.specs.Names.{RingName, name_of}
 use Rattle.ff_ring.specs.Outlets.{slots_of, hands_of, IsStarved}
+use Rattle.ff_ring.specs.Ringers.{untold_of}
 use Rattle.ff_ring.specs.Sizes.{bundle_size, bundle_count}
 
 module _ {T : Type 0} where
@@ -33,7 +34,11 @@ module _ {T : Type 0} where
   abbrev pub room_of : RingOut T → ℕ
   room_of out = hands_of out.outlet + spot_of out
 
-  -- whether the writer hands over what waits as soon as the reader is known to have taken all else
+  -- how many bundles were handed over that the reader wasn't told of
+  abbrev pub untold_out : RingOut T → ℕ
+  untold_out out = untold_of out.outlet.reader
+
+  -- whether the writer hands over what waits as soon as the reader is known to have taken all else, and tells of each bundle
   abbrev pub is_eager : RingOut T → Bool
   is_eager out = out.eager
 
@@ -52,6 +57,14 @@ module _ {T : Type 0} where
   -- the messages that the reader took: those of the bundles that reached it, but for what is left in the last
   abbrev pub got_of : RingIn T → List (Msg T)
   got_of inn = ahead_of inn.bundle.items (flat_map deque_items (received inn.inlet.end))
+
+  -- how many blocks came back that the writer wasn't told of
+  abbrev pub untold_in : RingIn T → ℕ
+  untold_in inn = untold_of inn.inlet.writer
+
+  -- whether the reader tells of each block
+  abbrev pub is_eager_in : RingIn T → Bool
+  is_eager_in inn = inn.eager
 
   -- the ring that the reader reads
   abbrev pub read_ring : RingIn T → RingName

@@ -4,4 +4,5 @@ pub mod Inlets
 pub mod Names
 pub mod Outlets
 pub mod Pauses
+pub mod Ringers
 pub mod Sizes

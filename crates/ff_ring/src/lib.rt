@@ -10,6 +10,7 @@ mod outlet;
 mod pause;
 mod ring_in;
 mod ring_out;
+mod ringer;
 mod settling;
 
 pub use bell::Bell;

@@ -2,12 +2,13 @@
 ghost use Rattle.std.specs.Prelude.{◌≡◌, ◌+◌, ◌-◌, ◌<◌, ◌≤◌, ◌^◌, [], length, All, IfOk, IsTrue};
 ghost use Rattle.std.proofs.Common.{deque_capacity};
 ghost use Rattle.rtrb.specs.Ring.{known_free, received, known_items};
-ghost use Rattle.ff_ring.specs.Ends.{put_of, got_of, known_of, room_of, is_eager, written_ring, read_ring, IsMade};
+ghost use Rattle.ff_ring.specs.Ends.{put_of, got_of, known_of, room_of, is_eager, is_eager_in, written_ring, read_ring, IsMade};
 ghost use Rattle.ff_ring.specs.Sizes.{bundle_size, bundle_count};
 
 use crate::bundle::{Bundle, Emptied, Filled};
 use crate::inlet::Inlet;
 use crate::outlet::Outlet;
+use crate::ringer::Ringer;
 use crate::{Bell, RingIn, RingOut};
 use ff_rec::NoMemory;
 use rtrb::{Consumer, Producer, RingBuffer};
@@ -33,7 +34,7 @@ pub fn ring<T: Drop>(
     ensures put { IfOk result (λ r. put_of r.0 ≡ []) }
     ensures got { IfOk result (λ r. (got_of r.1 ≡ []) × (known_of r.1 ≡ 0)) }
     ensures made { IfOk result (λ r. IsMade cap r.0) }
-    ensures eager { IfOk result (λ r. IsTrue (is_eager r.0)) }
+    ensures eager { IfOk result (λ r. IsTrue (is_eager r.0) × IsTrue (is_eager_in r.1)) }
 {
     let size = bundle_size(cap);
     let count = cap.div_ceil(size);
@@ -42,12 +43,12 @@ pub fn ring<T: Drop>(
     let outlet = Outlet {
         end,
         spares,
-        bell: reader,
+        reader: Ringer::new(reader),
     };
     let inlet = Inlet {
         end: taking,
         spares: giving,
-        bell: writer,
+        writer: Ringer::new(writer),
     };
     let out = RingOut::new(outlet, VecDeque::with_capacity(alloc, size)?);
     let inn = RingIn::new(inlet, VecDeque::with_capacity(alloc, size)?);

@@ -2,30 +2,34 @@
 ghost use Rattle.std.specs.Prelude.{◌≡◌, ◌<◌, IsTrue, IsFalse, ◌↔◌};
 ghost use Rattle.std.proofs.Common.{deque_len, deque_capacity};
 
-use crate::Bell;
 use crate::bundle::{Bundle, Emptied, Filled};
+use crate::ringer::Ringer;
 use rtrb::{Consumer, Producer};
 use std::alloc::Global;
 use std::mem;
-use std::sync::Arc;
 
-/// The writer's ends of both ways, and the bell of the reader's thread.
+/// The writer's ends of both ways, and the way to the bell of the reader's thread.
 #[derive(Drop)]
 pub(crate) struct Outlet<T> {
     pub(crate) end: Producer<Bundle<T>, Global, Filled>,
     pub(crate) spares: Consumer<Bundle<T>, Global, Emptied>,
-    pub(crate) bell: Arc<Bell, Global>,
+    pub(crate) reader: Ringer,
 }
 
 impl<T> Outlet<T> {
+    ghost use Rattle.std.specs.Prelude.{MatchBool};
     ghost use Rattle.ff_ring.specs.Outlets.{slots_of, hands_of, HandsOver, IsDue, Looks};
+    ghost use Rattle.ff_ring.specs.Ringers.{Notes};
 
-    /// Hands a bundle over and puts an empty block in its place. It answers whether there was room.
+    /// Hands a bundle over and puts an empty block in its place. It answers whether there was room. The reader is told of it at
+    /// once where that is asked for.
     #[inline(never)]
-    pub(crate) fn hand_over(&mut self, bundle: &mut Bundle<T>) -> bool
+    pub(crate) fn hand_over(&mut self, bundle: &mut Bundle<T>, eager: bool) -> bool
         requires filled { 0 < deque_len bundle.old }
         requires roomy { 0 < deque_capacity bundle.old }
         ensures exchanged { HandsOver self.old bundle.old result self.new bundle.new }
+        ensures told { MatchBool result (Notes eager (slots_of self.old) self.old.reader self.new.reader)
+            (self.new.reader ≡ self.old.reader) }
         ensures roomy { 0 < deque_capacity bundle.new }
     {
         if self.end.is_full() {
@@ -36,7 +40,7 @@ impl<T> Outlet<T> {
         };
         let filled = mem::replace(bundle, spare);
         self.end.push_reserved(filled);
-        self.bell.ring();
+        self.reader.note(eager, self.end.capacity());
         true
     }
 

@@ -10,11 +10,13 @@ use crate::inlet::Inlet;
 use ff_port::Inbox;
 use ff_rec::Msg;
 
-/// The reading end of a ring. It opens one bundle after another, and gives an emptied block back as it opens the next.
+/// The reading end of a ring. It opens one bundle after another, and gives an emptied block back as it opens the next. The
+/// writer is told of the blocks that came back, and in any case where nothing is left to take.
 #[derive(Drop)]
 pub struct RingIn<T> {
     pub(crate) inlet: Inlet<T>,
     pub(crate) bundle: Bundle<T>,
+    eager: bool,
     ghost roomy: { 0 < deque_capacity bundle },
     // The bundle that is open came last.
     ghost rest: { EndsWith bundle.items (flat_map deque_items (received inlet.end)) },
@@ -23,17 +25,33 @@ pub struct RingIn<T> {
 impl<T> RingIn<T> {
     ghost use Rattle.std.specs.Prelude.{◌∷◌, ◌++◌, [], length, true, ◌↔◌, IsTrue};
     ghost use Rattle.rtrb.specs.Ring.{known_items};
-    ghost use Rattle.ff_ring.specs.Ends.{got_of, known_of, there_of, read_ring};
+    ghost use Rattle.ff_ring.specs.Ends.{got_of, known_of, there_of, untold_in, is_eager_in, read_ring};
 
-    /// An end that nothing reached, with an empty block.
+    /// An end that is eager, that nothing reached, with an empty block.
     pub(crate) fn new(inlet: Inlet<T>, bundle: Bundle<T>) -> RingIn<T>
         requires roomy { 0 < deque_capacity bundle }
         requires empty { bundle.items ≡ [] }
         requires none { received inlet.end ≡ [] }
         ensures inlet { result.inlet ≡ inlet }
         ensures bundle { result.bundle ≡ bundle }
+        ensures eager { IsTrue (is_eager_in result) }
     {
-        RingIn { inlet, bundle }
+        RingIn {
+            inlet,
+            bundle,
+            eager: true,
+        }
+    }
+
+    /// Whether the writer is told of each block that comes back, which it is until an end is told otherwise. By one that
+    /// isn't eager it is told of those of half a ring at once, and where nothing is left to take.
+    pub fn set_eager(&mut self, eager: bool)
+        ensures link { read_ring self.new ≡ read_ring self.old }
+        ensures got { got_of self.new ≡ got_of self.old }
+        ensures there { there_of self.new ≡ there_of self.old }
+        ensures eager { is_eager_in self.new ≡ eager }
+    {
+        self.eager = eager;
     }
 
     /// Opens the next bundle.
@@ -45,8 +63,9 @@ impl<T> RingIn<T> {
         ensures got { got_of self.new ≡ got_of self.old }
         ensures there { there_of self.new ≡ there_of self.old }
         ensures some { 0 < length self.new.bundle.items }
+        ensures eager { is_eager_in self.new ≡ is_eager_in self.old }
     {
-        self.inlet.take_over(&mut self.bundle);
+        self.inlet.take_over(&mut self.bundle, self.eager);
     }
 
     /// Whether nothing is left of what is known to be there. The next bundle is opened where the one that is open is
@@ -56,6 +75,7 @@ impl<T> RingIn<T> {
         ensures got { got_of self.new ≡ got_of self.old }
         ensures there { there_of self.new ≡ there_of self.old }
         ensures none { IsTrue result ↔ (there_of self.new ≡ []) }
+        ensures eager { is_eager_in self.new ≡ is_eager_in self.old }
     {
         if !self.bundle.is_empty() {
             return false;
@@ -67,22 +87,30 @@ impl<T> RingIn<T> {
         false
     }
 
-    // Opens the next bundle where the one that is open is empty.
+    // Opens the next bundle where the one that is open is empty. Where there is none, the writer is told of all that came back.
     fn look(&mut self)
         ensures link { read_ring self.new ≡ read_ring self.old }
         ensures got { got_of self.new ≡ got_of self.old }
         ensures none { self.new.bundle.items ≡ []
             → (known_of self.old ≡ 0) × (known_of self.new ≡ 0) }
+        ensures told { self.new.bundle.items ≡ [] → untold_in self.new ≡ 0 }
+        ensures eager { is_eager_in self.new ≡ is_eager_in self.old }
     {
-        if self.bundle.is_empty() && !self.inlet.end.is_empty() {
-            self.open_next();
+        if self.bundle.is_empty() {
+            if self.inlet.end.is_empty() {
+                self.inlet.writer.tell();
+            } else {
+                self.open_next();
+            }
         }
     }
 }
 
 impl<T> Inbox<T> for RingIn<T> {
+    ghost use Rattle.std.specs.Prelude.{None};
+    ghost use Rattle.ff_port.specs.Channels.{Takes};
     ghost use Rattle.ff_ring.specs.Names.{RingName};
-    ghost use Rattle.ff_ring.specs.Ends.{got_of, known_of, read_ring};
+    ghost use Rattle.ff_ring.specs.Ends.{got_of, known_of, untold_in, is_eager_in, read_ring};
 
     ghost got = { λ inn. got_of inn };
 
@@ -92,7 +120,12 @@ impl<T> Inbox<T> for RingIn<T> {
 
     ghost link = { λ inn. read_ring inn };
 
-    fn try_take(&mut self) -> Option<Msg<T>> {
+    fn try_take(&mut self) -> Option<Msg<T>>
+        ensures link { read_ring self.new ≡ read_ring self.old }
+        ensures takes { Takes (got_of self.old) (known_of self.old) result (got_of self.new) (known_of self.new) }
+        ensures told { result ≡ None → untold_in self.new ≡ 0 }
+        ensures eager { is_eager_in self.new ≡ is_eager_in self.old }
+    {
         self.look();
         self.bundle.pop_front()
     }

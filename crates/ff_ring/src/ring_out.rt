@@ -23,7 +23,8 @@ pub struct RingOut<T> {
 impl<T> RingOut<T> {
     ghost use Rattle.std.specs.Prelude.{◌+◌, ◌-◌, min, ◌∷◌, ◌++◌, ◌≤◌, ℕ, IsTrue, MatchBool};
     ghost use Rattle.ff_ring.specs.Outlets.{hands_of, slots_of};
-    ghost use Rattle.ff_ring.specs.Ends.{put_of, held_of, room_of, is_eager, written_ring, HasPlace, Gathers, IsMade};
+    ghost use Rattle.ff_rec.specs.Streams.{IsOpenMsg};
+    ghost use Rattle.ff_ring.specs.Ends.{put_of, held_of, room_of, waiting_of, untold_out, is_eager, written_ring, HasPlace, Gathers, IsMade};
 
     /// An end that is eager, with an empty bundle.
     pub(crate) fn new(outlet: Outlet<T>, bundle: Bundle<T>) -> RingOut<T>
@@ -41,9 +42,9 @@ impl<T> RingOut<T> {
         }
     }
 
-    /// Whether a put hands over what waits as soon as the reader is seen to have taken all else, which an end does
-    /// until it is told otherwise. One that isn't eager hands over full bundles and the end of the stream, and the
-    /// rest at `flush`.
+    /// Whether a put hands over what waits as soon as the reader is seen to have taken all else, and the reader is told of
+    /// each bundle, which an end does until it is told otherwise. One that isn't eager hands over full bundles and the end of
+    /// the stream, and the rest at `flush`. It tells of half a ring at once, of the end, and at `flush`.
     pub fn set_eager(&mut self, eager: bool)
         ensures link { written_ring self.new ≡ written_ring self.old }
         ensures put { put_of self.new ≡ put_of self.old }
@@ -69,7 +70,7 @@ impl<T> RingOut<T> {
         if self.bundle.len() < self.bundle.capacity() {
             return true;
         }
-        self.outlet.hand_over(&mut self.bundle)
+        self.outlet.hand_over(&mut self.bundle, self.eager)
     }
 
     // Puts a message, and hands the bundle over where that is due.
@@ -80,22 +81,23 @@ impl<T> RingOut<T> {
         ensures room { room_of self.old ≤ room_of self.new + 1 }
         ensures eager { is_eager self.new ≡ is_eager self.old }
         ensures gathers { Gathers m self.new }
+        ensures told { ¬ IsOpenMsg m → waiting_of self.new ≡ 0 → untold_out self.new ≡ 0 }
     {
         let ends = matches!(m, Msg::Eos | Msg::Abort);
         self.bundle.push_back_reserved(m);
         let full = self.bundle.len() == self.bundle.capacity();
         if ends || full || self.outlet.is_due(self.eager) {
-            self.outlet.hand_over(&mut self.bundle);
+            self.outlet.hand_over(&mut self.bundle, self.eager || ends);
         }
     }
 }
 
 impl<T> Outbox<T> for RingOut<T> {
     ghost use Rattle.std.specs.Prelude.{◌↔◌, ◌≤◌, false, IsTrue, IsFalse};
-    ghost use Rattle.ff_rec.specs.Streams.{IsOpen};
+    ghost use Rattle.ff_rec.specs.Streams.{IsOpen, IsOpenMsg};
     ghost use Rattle.ff_port.specs.Channels.{Puts};
     ghost use Rattle.ff_ring.specs.Names.{RingName};
-    ghost use Rattle.ff_ring.specs.Ends.{put_of, room_of, waiting_of, is_eager, written_ring, Gathers};
+    ghost use Rattle.ff_ring.specs.Ends.{put_of, room_of, waiting_of, untold_out, is_eager, written_ring, Gathers};
 
     ghost put = { λ out. put_of out };
 
@@ -118,6 +120,7 @@ impl<T> Outbox<T> for RingOut<T> {
             (put_of self.new) (room_of self.new) }
         ensures eager { is_eager self.new ≡ is_eager self.old }
         ensures gathers { Gathers m self.new }
+        ensures told { result ≡ Put.Done → ¬ IsOpenMsg m → waiting_of self.new ≡ 0 → untold_out self.new ≡ 0 }
     {
         if !self.make_room() {
             return Put::Full(m);
@@ -133,7 +136,10 @@ impl<T> Outbox<T> for RingOut<T> {
         ensures eager { is_eager self.new ≡ is_eager self.old }
         ensures room { room_of self.old ≤ room_of self.new }
         ensures no_room { IsFalse result → room_of self.new ≡ 0 }
+        ensures told { untold_out self.new ≡ 0 }
     {
-        self.bundle.is_empty() || self.outlet.hand_over(&mut self.bundle)
+        let all = self.bundle.is_empty() || self.outlet.hand_over(&mut self.bundle, self.eager);
+        self.outlet.reader.tell();
+        all
     }
 }

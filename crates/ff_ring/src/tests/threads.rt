@@ -1,4 +1,5 @@
-// Two threads with the two ends of a ring, which sleep without end: a bell that isn't rung would hang them.
+// Two threads with the two ends of a ring, which sleep without end: a bell that isn't rung would hang them, be it for each bundle or
+// for several.
 ghost use Rattle.std.specs.Prelude.{◌≡◌, ◌≤◌, [], IfOk};
 ghost use Rattle.ff_rec.specs.Streams.{IsOpen};
 ghost use Rattle.ff_ring.specs.Ends.{put_of, written_ring, read_ring};
@@ -39,6 +40,7 @@ fn writes(rt: &impl Wait, mut out: RingOut<u64>, count: u64, bell: &Bell) -> Rin
             next += 1;
             tried = false;
         } else {
+            out.flush();
             tried = sleeps(rt, bell, tried);
         }
     }
@@ -55,6 +57,7 @@ fn ends(rt: &impl Wait, mut out: RingOut<u64>, bell: &Bell) -> RingOut<u64>
         if matches!(out.try_put(Msg::Eos), Put::Done) {
             break;
         }
+        out.flush();
         tried = sleeps(rt, bell, tried);
     }
     hands_over(rt, out, bell)
@@ -106,6 +109,7 @@ fn crosses<R: Threads + Wait + Sync>(
     rt: &R,
     alloc: Global,
     cap: usize,
+    eager: bool,
     count: u64,
 ) -> Result<(u64, bool), NoMemory>
     requires some { 1 ≤ cap }
@@ -113,12 +117,14 @@ fn crosses<R: Threads + Wait + Sync>(
 {
     let writer = Arc::new(alloc, Bell::new())?;
     let reader = Arc::new(alloc, Bell::new())?;
-    let (out, inn) = ring(
+    let (mut out, mut inn) = ring(
         alloc,
         cap,
         Arc::try_clone(&writer)?,
         Arc::try_clone(&reader)?,
     )?;
+    out.set_eager(eager);
+    inn.set_eager(eager);
     let (mut out, (mut inn, came)) = thread::join(
         rt,
         move || -> RingOut<u64>
@@ -137,8 +143,10 @@ fn crosses<R: Threads + Wait + Sync>(
 fn two_threads(rt: HostRuntime) -> Result<(), Fail> {
     for cap in [1, 2, 64, 512, 4096] {
         for count in [0, 1, 5, 20_000] {
-            let answer = crosses(&rt, rt.alloc(), cap, count)?;
-            assert_eq!(rt; answer, (count, true), "at {cap}");
+            for eager in [true, false] {
+                let answer = crosses(&rt, rt.alloc(), cap, eager, count)?;
+                assert_eq!(rt; answer, (count, true), "at {cap}");
+            }
         }
     }
     Ok(())

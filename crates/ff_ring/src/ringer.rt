@@ -1,0 +1,53 @@
+// How the thread at a ring's other end is told of what was handed over.
+ghost use Rattle.std.specs.Prelude.{◌≡◌};
+ghost use Rattle.ff_ring.specs.Ringers.{untold_of, Notes};
+
+use crate::Bell;
+use std::alloc::Global;
+use std::sync::Arc;
+
+/// Rings the bell of the thread at the other end: for each hand-over, or for several at once. To wake a thread takes
+/// longer than to fill a bundle, and one that is woken for each bundle has slept again before the next one.
+#[derive(Drop)]
+pub(crate) struct Ringer {
+    bell: Arc<Bell, Global>,
+    // How often something was handed over since the bell rang.
+    untold: usize,
+}
+
+impl Ringer {
+    /// The way to a bell of which nothing was handed over yet.
+    pub(crate) fn new(bell: Arc<Bell, Global>) -> Ringer
+        ensures { untold_of result ≡ 0 }
+    {
+        Ringer { bell, untold: 0 }
+    }
+
+    /// Something was handed over. The thread is told at once where that is asked for, and else once it was done for half of
+    /// the ring's slots.
+    pub(crate) fn note(&mut self, eager: bool, slots: usize)
+        ensures { Notes eager slots self.old self.new }
+    {
+        if eager || self.untold >= slots.saturating_sub(1) / 2 {
+            self.ring();
+        } else {
+            self.untold += 1;
+        }
+    }
+
+    /// Tells the thread of all that it wasn't told of.
+    pub(crate) fn tell(&mut self)
+        ensures { untold_of self.new ≡ 0 }
+    {
+        if self.untold > 0 {
+            self.ring();
+        }
+    }
+
+    fn ring(&mut self)
+        ensures { untold_of self.new ≡ 0 }
+    {
+        self.bell.ring();
+        self.untold = 0;
+    }
+}
