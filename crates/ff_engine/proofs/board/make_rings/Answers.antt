@@ -19,11 +19,11 @@ AllZip-more R edges i d ends ends' end within zipped is made =
 
 pub loop-edge-preserved : goal.loop-edge-preserved
 loop-edge-preserved c =
-    let inn = c.set_eager-2.new.self in
+    let inn = c.set_eager-in-loop-edge.new.self in
     let out = c.set_eager.new.self in
     let made = c.in_ok-out.ensures in
     let set = c.set_eager.ensures in
-    let told = c.set_eager-2.ensures in
+    let told = c.set_eager-in-loop-edge.ensures in
     let ins = c.loop-edge.ins.items in
     let outs = c.loop-edge.outs.items in record {
       fresh = subst (λ is. AllZip IsFreshPair is c.push-in-loop-edge.new.self.items) (sym c.in_ok-push.ensures.items)
