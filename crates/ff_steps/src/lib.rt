@@ -7,6 +7,7 @@ mod drainer;
 mod ends;
 mod feeder;
 mod kinds;
+mod making;
 mod middle;
 mod net_core;
 mod net_unit;

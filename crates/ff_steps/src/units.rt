@@ -7,14 +7,16 @@ ghost use Rattle.ff_steps.specs.NetUnits.{net_does};
 ghost use Rattle.ff_steps.specs.PlanUnits.{opened_units, units_in, units_through, stage_unit, IsUnrun};
 
 use crate::NetUnit;
-use crate::copies::{add_farm, add_left_set, add_ofarm, add_right_set};
+use crate::copies::{add_farm, add_left_set, add_right_set};
+use crate::kinds::{farm_deal, group_deal, group_merge};
+use crate::making::{Making, add_unit};
 use crate::middle::add_middle;
 use crate::wraps::add_wrap;
 use ff_net::laws::checked_networks_are_good;
 use ff_net::{Checked, Net};
 use ff_node::{Comb, Node};
 use ff_rec::NoMemory;
-use ff_unit::Stage;
+use ff_unit::{Merge, Stage};
 use std::alloc::Global;
 
 /// The units of a network, in the order of its plan, each before its first step. A wrap may have `limit` tasks.
@@ -30,7 +32,8 @@ pub fn make_units<N: Node>(
 {
     checked_networks_are_good(checked);
     let mut units = Vec::new(alloc);
-    add_units(alloc, checked.net(), limit, keep, &mut units)?;
+    let making = Making { alloc, limit, keep };
+    add_units(making, checked.net(), &mut units)?;
     Ok(units)
 }
 
@@ -38,29 +41,35 @@ pub fn make_units<N: Node>(
 #[cycle(units)]
 #[tactic(auto, using(ff_net::proofs::NodeLists::node_lists))]
 pub(crate) fn add_units<N: Node>(
-    alloc: Global,
+    making: Making,
     net: &Net<N>,
-    limit: u64,
-    keep: bool,
     units: &mut Vec<NetUnit<N>>,
 ) -> Result<(), NoMemory>
     requires { Good N.does (tree_of net.now) }
     ensures { OnOk result (units.new.items
-        ≡ units.old.items ++ units_in N.does limit keep (tree_of net.now)) }
+        ≡ units.old.items ++ units_in N.does making.limit making.keep (tree_of net.now)) }
 {
     match net {
-        Net::Leaf(_) | Net::Comb(_) => add_stage(alloc, net, keep, units),
-        Net::Pipe(parts) => add_parts(alloc, parts, limit, keep, units),
+        Net::Leaf(_) | Net::Comb(_) => add_stage(making, net, units),
+        Net::Pipe(parts) => add_parts(making, parts, units),
         Net::Farm {
             workers,
             sched,
             worker,
-        } => add_farm(alloc, *workers, *sched, worker, limit, keep, units),
+        } => {
+            let deal = NetUnit::of_deal(farm_deal(*sched, *workers));
+            let merge = NetUnit::of_merge(Merge::new(*workers));
+            add_farm(making, deal, worker, *workers, merge, units)
+        }
         Net::OFarm {
             workers,
             sched,
             worker,
-        } => add_ofarm(alloc, *workers, *sched, worker, limit, keep, units),
+        } => {
+            let deal = NetUnit::of_odeal(group_deal(*sched, *workers));
+            let merge = NetUnit::of_omerge(group_merge(*sched, *workers));
+            add_farm(making, deal, worker, *workers, merge, units)
+        }
         Net::A2a {
             left,
             left_node,
@@ -68,15 +77,15 @@ pub(crate) fn add_units<N: Node>(
             right,
             right_node,
         } => {
-            add_left_set(alloc, *left, left_node, limit, keep, units)?;
+            add_left_set(making, left_node, *left, units)?;
             add_middle(*left, *route, *right, units)?;
-            add_right_set(alloc, *right, right_node, limit, keep, units)
+            add_right_set(making, right_node, *right, units)
         }
         Net::Wrap {
             workers,
             worker,
             test,
-        } => add_wrap(alloc, *workers, worker, *test, limit, keep, units),
+        } => add_wrap(making, *workers, worker, *test, units),
     }
 }
 
@@ -84,36 +93,32 @@ pub(crate) fn add_units<N: Node>(
 #[cycle(units)]
 #[tactic(auto, using(ff_net::proofs::NodeLists::node_lists))]
 fn add_parts<N: Node>(
-    alloc: Global,
+    making: Making,
     parts: &[Net<N>],
-    limit: u64,
-    keep: bool,
     units: &mut Vec<NetUnit<N>>,
 ) -> Result<(), NoMemory>
     requires { GoodParts N.does (trees_of parts.now) }
     ensures { OnOk result (units.new.items
-        ≡ units.old.items ++ units_through N.does limit keep (trees_of parts.now)) }
+        ≡ units.old.items ++ units_through N.does making.limit making.keep (trees_of parts.now)) }
 {
     for part in parts {
-        add_units(alloc, part, limit, keep, units)?;
+        add_units(making, part, units)?;
     }
     Ok(())
 }
 
 // Adds the stage of a leaf or of a comb.
 fn add_stage<N: Node>(
-    alloc: Global,
+    making: Making,
     net: &Net<N>,
-    keep: bool,
     units: &mut Vec<NetUnit<N>>,
 ) -> Result<(), NoMemory>
     requires good { Good N.does (tree_of net.now) }
     requires node { is_node (tree_of net.now) ≡ true }
     ensures { OnOk result (units.new.items
-        ≡ units.old.items ++ stage_unit N.does keep (tree_of net.now) ∷ []) }
+        ≡ units.old.items ++ stage_unit N.does making.keep (tree_of net.now) ∷ []) }
 {
-    let nodes = net.nodes(alloc)?;
-    let stage = Stage::new(alloc, Comb::new(nodes), keep);
-    units.push(NetUnit::of_stage(stage))?;
-    Ok(())
+    let nodes = net.nodes(making.alloc)?;
+    let stage = Stage::new(making.alloc, Comb::new(nodes), making.keep);
+    add_unit(NetUnit::of_stage(stage), units)
 }

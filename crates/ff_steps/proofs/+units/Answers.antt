@@ -21,5 +21,5 @@ units::add_units-add_stage-requires-clause-node g t c = elim c.in-Leaf.is [
 
 pub copies::add_copies-loop-preserved : goal.copies::add_copies-loop-preserved
 copies::add_copies-loop-preserved g t c =
-    times-push c.args.units.now.items c.loop.counter (units_in g.N.Node.does c.args.limit c.args.keep (tree_of c.args.net.now)) c.loop.units.items c.add_units.new.units.items
+    times-push c.args.units.now.items c.loop.counter (units_in g.N.Node.does c.args.making.limit c.args.making.keep (tree_of c.args.net.now)) c.loop.units.items c.add_units.new.units.items
     c.loop.invariant c.in_ok-add_units.ensures

@@ -5,4 +5,4 @@ use Rattle.ff_steps.specs.PlanUnits.{worker_unit, times}
 use Rattle.ff_steps.proofs.wraps.add_workers.Given as goal
 
 abbrev pub invariant-loop : goal.invariant-loop
-invariant-loop g l = l.units.items ≡ l.initial.units.items ++ times l.counter (worker_unit g.N.Node.does l.keep (tree_of l.net) ∷ [])
+invariant-loop g l = l.units.items ≡ l.initial.units.items ++ times l.counter (worker_unit g.N.Node.does l.making.keep (tree_of l.net) ∷ [])
