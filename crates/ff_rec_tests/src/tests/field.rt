@@ -1,4 +1,5 @@
 use ff_rec::{Field, FieldFault, Kept};
+use std::process::Abort;
 use std::test::Fail;
 
 #[test]
@@ -21,15 +22,20 @@ fn holds_any_other_byte(rt: HostRuntime) -> Result<(), Fail> {
     Ok(())
 }
 
+// The field holds the bytes of this text.
+fn expect_text(rt: &impl Abort, field: &Field, want: &str) {
+    assert_eq!(rt; field.bytes(), want.as_bytes());
+}
+
 #[test]
 fn changes_the_case_of_a_copy(rt: HostRuntime) -> Result<(), Fail> {
     let field = Field::new(rt.alloc(), "@azAZ`[{é".as_bytes())?;
     let mut upper = field.copy()?;
     upper.make_ascii_uppercase();
-    assert_eq!(rt; upper.bytes(), "@AZAZ`[{é".as_bytes());
+    expect_text(&rt, &upper, "@AZAZ`[{é");
     let mut lower = field.copy()?;
     lower.make_ascii_lowercase();
-    assert_eq!(rt; lower.bytes(), "@azaz`[{é".as_bytes());
-    assert_eq!(rt; field.bytes(), "@azAZ`[{é".as_bytes());
+    expect_text(&rt, &lower, "@azaz`[{é");
+    expect_text(&rt, &field, "@azAZ`[{é");
     Ok(())
 }

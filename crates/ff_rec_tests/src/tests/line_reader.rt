@@ -23,38 +23,70 @@ fn feed(
     assert_eq!(rt; reader.feed(piece, into), want);
 }
 
+// The reader answers this where it passes over the piece.
+fn pass_over(rt: &impl Abort, reader: &mut LineReader, piece: &[u8], want: Result<(), FeedFault>) {
+    assert_eq!(rt; reader.pass_over(piece), want);
+}
+
+fn expect_fault(rt: &impl Abort, reader: &LineReader, want: Option<FeedFault>) {
+    assert_eq!(rt; reader.fault(), want);
+}
+
+fn expect_len(rt: &impl Abort, records: &Vec<Record>, want: usize) {
+    assert_eq!(rt; records.len(), want);
+}
+
+// The records are written so.
+fn expect_text(
+    rt: &impl Abort,
+    alloc: Global,
+    records: &Vec<Record>,
+    want: &[u8],
+) -> Result<(), Fail> {
+    assert_eq!(rt; text_of(alloc, records)?.as_slice(), want);
+    Ok(())
+}
+
+// The reader has no fault, and gives what it still holds of a line.
+fn finish(rt: &impl Abort, reader: LineReader, into: &mut Vec<Record>) -> Result<(), Fail> {
+    assert_eq!(rt; reader.fault(), None);
+    reader.finish(into)?;
+    Ok(())
+}
+
 #[test]
 fn line_reader_keeps_its_refusal(rt: HostRuntime) -> Result<(), Fail> {
     let mut reader = LineReader::new(rt.alloc(), 10, 4)?;
     let mut into = Vec::new(rt.alloc());
     feed(&rt, &mut reader, b"ab\n", &mut into, Ok(()));
-    assert_eq!(rt; reader.fault(), None);
-    let too_long = Err(FeedFault::Line(LineFault::InputTooLong));
-    for piece in ["cd", "", "\n", "e\nf\n"] {
-        feed(&rt, &mut reader, piece.as_bytes(), &mut into, too_long);
-    }
-    assert_eq!(rt;
-        reader.fault(),
-        Some(FeedFault::Line(LineFault::InputTooLong))
-    );
-    assert_eq!(rt; text_of(rt.alloc(), &into)?.as_slice(), b"ab\n".as_slice());
-    Ok(())
+    expect_fault(&rt, &reader, None);
+    let fault = FeedFault::Line(LineFault::InputTooLong);
+    feed(&rt, &mut reader, b"cd", &mut into, Err(fault));
+    feed(&rt, &mut reader, b"", &mut into, Err(fault));
+    feed(&rt, &mut reader, b"\n", &mut into, Err(fault));
+    feed(&rt, &mut reader, b"e\nf\n", &mut into, Err(fault));
+    expect_fault(&rt, &reader, Some(fault));
+    expect_text(&rt, rt.alloc(), &into, b"ab\n")
+}
+
+// Two records, of which the first has 64 fields.
+fn expect_wide(rt: &impl Abort, records: &Vec<Record>) {
+    assert_eq!(rt; records.len(), 2);
+    assert_eq!(rt; records[0].len(), 64);
 }
 
 #[test]
 fn many_fields(rt: HostRuntime) -> Result<(), Fail> {
     let mut reader = LineReader::new(rt.alloc(), 65_536, 1 << 40)?;
     let mut into = Vec::new(rt.alloc());
-    let mut wide = Vec::new(rt.alloc());
-    wide.resize(63, b'\t')?;
+    let wide = text_from(rt.alloc(), b"", 63, b'\t')?;
     feed(&rt, &mut reader, wide.as_slice(), &mut into, Ok(()));
     feed(&rt, &mut reader, b"\na\nb", &mut into, Ok(()));
-    assert_eq!(rt; into.len(), 2);
-    assert_eq!(rt; into[0].len(), 64);
+    expect_wide(&rt, &into);
     feed(&rt, &mut reader, wide.as_slice(), &mut into, Ok(()));
     let too_many = Err(FeedFault::Line(LineFault::TooManyFields(3)));
     feed(&rt, &mut reader, b"\t", &mut into, too_many);
-    assert_eq!(rt; into.len(), 2);
+    expect_len(&rt, &into, 2);
     Ok(())
 }
 
@@ -63,6 +95,41 @@ fn text_from(alloc: Global, front: &[u8], len: usize, byte: u8) -> Result<Vec<u8
     let mut text = Vec::from_slice(alloc, front)?;
     text.resize(len, byte)?;
     Ok(text)
+}
+
+// How many bytes a line and an input may have.
+type Limits = (usize, u64);
+
+fn reader_of(rt: &impl Abort, alloc: Global, limits: Limits) -> Result<LineReader, Fail> {
+    assert!(rt; 1 <= limits.0 && 1 <= limits.1);
+    Ok(LineReader::new(alloc, limits.0, limits.1)?)
+}
+
+// A reader with these limits answers this to the text.
+fn check_fed(
+    rt: &impl Abort,
+    alloc: Global,
+    limits: Limits,
+    text: &[u8],
+    want: Result<(), FeedFault>,
+) -> Result<(), Fail> {
+    let mut into = Vec::new(alloc);
+    let found = reader_of(rt, alloc, limits)?.feed(text, &mut into);
+    assert_eq!(rt; found, want, "{limits:?}");
+    Ok(())
+}
+
+// A reader with these limits answers this where it passes over the text.
+fn check_passed_over(
+    rt: &impl Abort,
+    alloc: Global,
+    limits: Limits,
+    text: &[u8],
+    want: Result<(), FeedFault>,
+) -> Result<(), Fail> {
+    let found = reader_of(rt, alloc, limits)?.pass_over(text);
+    assert_eq!(rt; found, want, "{limits:?}");
+    Ok(())
 }
 
 #[test]
@@ -75,28 +142,20 @@ fn the_first_limit_that_is_passed_decides(rt: HostRuntime) -> Result<(), Fail> {
     let input = Err(FeedFault::Line(LineFault::InputTooLong));
     let too_long = Err(FeedFault::Line(LineFault::TooLong(2)));
     let many = Err(FeedFault::Line(LineFault::TooManyFields(2)));
-    for (line_limit, input_limit, text, want) in [
-        (63, 65, tabs, input),
-        (64, 65, tabs, input),
-        (63, 66, tabs, too_long),
-        (62, 65, tabs, too_long),
-        (64, 66, tabs, many),
-        (65_536, 1 << 40, long, too_long),
-        (65_537, 1 << 40, long, Ok(())),
+    for (limits, text, want) in [
+        ((63, 65), tabs, input),
+        ((64, 65), tabs, input),
+        ((63, 66), tabs, too_long),
+        ((62, 65), tabs, too_long),
+        ((64, 66), tabs, many),
+        ((65_536, 1 << 40), long, too_long),
+        ((65_537, 1 << 40), long, Ok(())),
         // A newline is a byte of the input, and none of its line.
-        (1, 3, b"a\nb\n", input),
-        (1, 4, b"a\nb\n", Ok(())),
+        ((1, 3), b"a\nb\n", input),
+        ((1, 4), b"a\nb\n", Ok(())),
     ] {
-        assert!(rt; 1 <= line_limit && 1 <= input_limit);
-        let mut reader = LineReader::new(rt.alloc(), line_limit, input_limit)?;
-        let mut into = Vec::new(rt.alloc());
-        assert_eq!(rt;
-            reader.feed(text, &mut into),
-            want,
-            "{line_limit}, {input_limit}"
-        );
-        let mut other = LineReader::new(rt.alloc(), line_limit, input_limit)?;
-        assert_eq!(rt; other.pass_over(text), want, "{line_limit}, {input_limit}");
+        check_fed(&rt, rt.alloc(), limits, text, want)?;
+        check_passed_over(&rt, rt.alloc(), limits, text, want)?;
     }
     Ok(())
 }
@@ -105,68 +164,77 @@ fn the_first_limit_that_is_passed_decides(rt: HostRuntime) -> Result<(), Fail> {
 fn what_was_passed_over_counts(rt: HostRuntime) -> Result<(), Fail> {
     let mut reader = LineReader::new(rt.alloc(), 3, 14)?;
     let mut into = Vec::new(rt.alloc());
-    for piece in ["a\tb", "\n\n", "cc"] {
-        assert_eq!(rt; reader.pass_over(piece.as_bytes()), Ok(()));
-    }
+    pass_over(&rt, &mut reader, b"a\tb", Ok(()));
+    pass_over(&rt, &mut reader, b"\n\n", Ok(()));
+    pass_over(&rt, &mut reader, b"cc", Ok(()));
     feed(&rt, &mut reader, b"d\ne", &mut into, Ok(()));
-    assert_eq!(rt; text_of(rt.alloc(), &into)?.as_slice(), b"ccd\n".as_slice());
+    expect_text(&rt, rt.alloc(), &into, b"ccd\n")?;
     let too_long = Err(FeedFault::Line(LineFault::TooLong(4)));
-    assert_eq!(rt; reader.pass_over(b"fgh"), too_long);
-    assert_eq!(rt; reader.pass_over(b"\n"), too_long);
+    pass_over(&rt, &mut reader, b"fgh", too_long);
+    pass_over(&rt, &mut reader, b"\n", too_long);
     feed(&rt, &mut reader, b"i\n", &mut into, too_long);
-    assert_eq!(rt; into.len(), 1);
+    expect_len(&rt, &into, 1);
     Ok(())
+}
+
+const CUT: &[u8] = b"a\n\nb\tc\n\t\td\ne";
+
+// Feeds the text in pieces, which end behind the bytes at which the cutting has a 1, the lowest bit first.
+fn feed_pieces(
+    rt: &impl Abort,
+    alloc: Global,
+    cutting: u16,
+    reader: &mut LineReader,
+    into: &mut Vec<Record>,
+) -> Result<(), Fail> {
+    let mut piece = Vec::new(alloc);
+    let mut cuts = cutting;
+    for byte in CUT {
+        piece.push(*byte)?;
+        if cuts % 2 == 1 {
+            feed(rt, reader, piece.as_slice(), into, Ok(()));
+            piece.clear();
+        }
+        cuts /= 2;
+    }
+    feed(rt, reader, piece.as_slice(), into, Ok(()));
+    Ok(())
+}
+
+fn check_cutting(rt: &impl Abort, alloc: Global, cutting: u16) -> Result<(), Fail> {
+    let mut reader = LineReader::new(alloc, 3, 12)?;
+    let mut into = Vec::new(alloc);
+    feed_pieces(rt, alloc, cutting, &mut reader, &mut into)?;
+    assert_eq!(rt; into.len(), 4, "{cutting}");
+    finish(rt, reader, &mut into)?;
+    assert_eq!(rt; into.len(), 5, "{cutting}");
+    expect_text(rt, alloc, &into, b"a\n\nb\tc\n\t\td\ne\n")
 }
 
 #[test]
 fn every_cutting_into_pieces_gives_the_same_records(rt: HostRuntime) -> Result<(), Fail> {
     for cutting in 0..2048u16 {
-        let mut reader = LineReader::new(rt.alloc(), 3, 12)?;
-        let mut into = Vec::new(rt.alloc());
-        let mut piece = Vec::new(rt.alloc());
-        let mut cuts = cutting;
-        for byte in b"a\n\nb\tc\n\t\td\ne".as_slice() {
-            piece.push(*byte)?;
-            if cuts % 2 == 1 {
-                feed(&rt, &mut reader, piece.as_slice(), &mut into, Ok(()));
-                piece.clear();
-            }
-            cuts /= 2;
-        }
-        feed(&rt, &mut reader, piece.as_slice(), &mut into, Ok(()));
-        assert_eq!(rt; into.len(), 4, "{cutting}");
-        assert_eq!(rt; reader.fault(), None);
-        reader.finish(&mut into)?;
-        assert_eq!(rt; into.len(), 5, "{cutting}");
-        assert_eq!(rt;
-            text_of(rt.alloc(), &into)?.as_slice(),
-            b"a\n\nb\tc\n\t\td\ne\n".as_slice(),
-            "{cutting}"
-        );
+        check_cutting(&rt, rt.alloc(), cutting)?;
     }
     Ok(())
 }
 
+// The records of a whole text are written so.
+fn check_whole(rt: &impl Abort, alloc: Global, text: &[u8], want: &[u8]) -> Result<(), Fail> {
+    let mut reader = LineReader::new(alloc, 10, 100)?;
+    let mut into = Vec::new(alloc);
+    feed(rt, &mut reader, text, &mut into, Ok(()));
+    finish(rt, reader, &mut into)?;
+    expect_text(rt, alloc, &into, want)
+}
+
 #[test]
 fn finish_gives_a_last_line_without_a_newline(rt: HostRuntime) -> Result<(), Fail> {
-    for (text, want) in [
-        ("", ""),
-        ("\n", "\n"),
-        ("a\tb", "a\tb\n"),
-        ("a\tb\n", "a\tb\n"),
-        ("a\n\n", "a\n\n"),
-        ("a\n\nb", "a\n\nb\n"),
-    ] {
-        let mut reader = LineReader::new(rt.alloc(), 10, 100)?;
-        let mut into = Vec::new(rt.alloc());
-        assert_eq!(rt; reader.feed(text.as_bytes(), &mut into), Ok(()));
-        assert_eq!(rt; reader.fault(), None);
-        reader.finish(&mut into)?;
-        assert_eq!(rt;
-            text_of(rt.alloc(), &into)?.as_slice(),
-            want.as_bytes(),
-            "{text:?}"
-        );
-    }
-    Ok(())
+    let alloc = rt.alloc();
+    check_whole(&rt, alloc, b"", b"")?;
+    check_whole(&rt, alloc, b"\n", b"\n")?;
+    check_whole(&rt, alloc, b"a\tb", b"a\tb\n")?;
+    check_whole(&rt, alloc, b"a\tb\n", b"a\tb\n")?;
+    check_whole(&rt, alloc, b"a\n\n", b"a\n\n")?;
+    check_whole(&rt, alloc, b"a\n\nb", b"a\n\nb\n")
 }

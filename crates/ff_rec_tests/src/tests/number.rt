@@ -1,25 +1,27 @@
 // The expected values are those of the definition of a field's number, worked out by hand.
 use ff_rec::{print_number, read_number};
+use std::process::Abort;
 use std::test::Fail;
+
+// A text is read as this number, if any.
+fn check_read(rt: &impl Abort, text: &str, want: Option<i64>) {
+    assert_eq!(rt; read_number(text.as_bytes()), want, "at {text}");
+}
 
 #[test]
 fn reads_the_numbers_of_64_bits(rt: HostRuntime) {
-    for (bytes, want) in [
-        ("0", 0),
-        ("-0", 0),
-        ("+7", 7),
-        ("007", 7),
-        ("-12", -12),
-        ("9223372036854775807", 9223372036854775807),
-        ("-9223372036854775808", -9223372036854775808),
-    ] {
-        assert_eq!(rt; read_number(bytes.as_bytes()), Some(want), "at {bytes}");
-    }
+    check_read(&rt, "0", Some(0));
+    check_read(&rt, "-0", Some(0));
+    check_read(&rt, "+7", Some(7));
+    check_read(&rt, "007", Some(7));
+    check_read(&rt, "-12", Some(-12));
+    check_read(&rt, "9223372036854775807", Some(9223372036854775807));
+    check_read(&rt, "-9223372036854775808", Some(-9223372036854775808));
 }
 
 #[test]
 fn reads_nothing_else(rt: HostRuntime) {
-    for bytes in [
+    for text in [
         "",
         "-",
         "+",
@@ -32,7 +34,7 @@ fn reads_nothing_else(rt: HostRuntime) {
         "-9223372036854775809",
         "\u{e9}",
     ] {
-        assert_eq!(rt; read_number(bytes.as_bytes()), None, "at {bytes}");
+        check_read(&rt, text, None);
     }
     assert_eq!(rt; read_number(b"1\xff"), None);
 }

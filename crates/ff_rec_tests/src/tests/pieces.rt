@@ -1,20 +1,29 @@
 use ff_rec::{split, split_near};
+use std::process::Abort;
+
+// A first piece, and what follows it, if anything does.
+type Pieces<'a> = (&'a [u8], Option<&'a [u8]>);
+
+fn expect_pieces(rt: &impl Abort, text: &str, found: Pieces, want: Pieces) {
+    assert_eq!(rt; found, want, "{text:?}");
+}
+
+// A text is cut so at its first tab, in both ways.
+fn check(rt: &impl Abort, text: &str, piece: &[u8], rest: Option<&[u8]>) {
+    let bytes = text.as_bytes();
+    expect_pieces(rt, text, split(bytes, b'\t'), (piece, rest));
+    expect_pieces(rt, text, split_near(bytes, b'\t'), (piece, rest));
+}
 
 #[test]
 fn cuts_at_the_first_separator(rt: HostRuntime) {
-    for (bytes, piece, rest) in [
-        ("ab\tc\td", "ab", Some("c\td")),
-        ("\t", "", Some("")),
-        ("ab", "ab", None),
-        ("", "", None),
-        // Near the last of the bytes that are looked at one by one.
-        ("abcdefghijk\tl", "abcdefghijk", Some("l")),
-        ("abcdefghijkl\tm\t", "abcdefghijkl", Some("m\t")),
-        ("abcdefghijklm\tn", "abcdefghijklm", Some("n")),
-        ("abcdefghijklmn", "abcdefghijklmn", None),
-    ] {
-        let want = (piece.as_bytes(), rest.map(|rest| rest.as_bytes()));
-        assert_eq!(rt; split(bytes.as_bytes(), b'\t'), want, "{bytes:?}");
-        assert_eq!(rt; split_near(bytes.as_bytes(), b'\t'), want, "{bytes:?}");
-    }
+    check(&rt, "ab\tc\td", b"ab", Some(b"c\td"));
+    check(&rt, "\t", b"", Some(b""));
+    check(&rt, "ab", b"ab", None);
+    check(&rt, "", b"", None);
+    // Near the last of the bytes that are looked at one by one.
+    check(&rt, "abcdefghijk\tl", b"abcdefghijk", Some(b"l"));
+    check(&rt, "abcdefghijkl\tm\t", b"abcdefghijkl", Some(b"m\t"));
+    check(&rt, "abcdefghijklm\tn", b"abcdefghijklm", Some(b"n"));
+    check(&rt, "abcdefghijklmn", b"abcdefghijklmn", None);
 }
