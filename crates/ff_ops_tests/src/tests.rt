@@ -37,20 +37,38 @@ fn read(alloc: Global, text: &str) -> Result<Result<Op, OpFault>, Fail> {
     Ok(Op::read(alloc, name.as_bytes(), &args))
 }
 
+// The operation of a text that isn't refused.
+fn operation(alloc: Global, text: &str) -> Result<Op, Fail> {
+    Ok(read(alloc, text)??)
+}
+
+// An operation has so many arguments, and its row has as many.
+fn expect_arguments(rt: &impl Abort, op: &Op, text: &str, want: usize) {
+    assert_eq!(rt; op.args().len(), want, "{text}");
+    let kinds = shape(op.row().name()).map(|kinds| kinds.len());
+    assert_eq!(rt; kinds, Some(want), "{text}");
+}
+
+fn expect_text(rt: &impl Abort, found: &[u8], want: &str) {
+    assert_eq!(rt; found, want.as_bytes());
+}
+
 // An operation is read, has so many arguments, and is printed as it was read; so is its copy.
 fn check_text(rt: &impl Abort, alloc: Global, text: &str, arguments: usize) -> Result<(), Fail> {
-    let op = read(alloc, text)??;
-    assert_eq!(rt; op.args().len(), arguments, "{text}");
-    let kinds = shape(op.row().name()).map(|kinds| kinds.len());
-    assert_eq!(rt; kinds, Some(arguments), "{text}");
-    assert_eq!(rt; printed(alloc, &op)?.as_slice(), text.as_bytes());
+    let op = operation(alloc, text)?;
+    expect_arguments(rt, &op, text, arguments);
+    expect_text(rt, &printed(alloc, &op)?, text);
     Ok(())
+}
+
+fn copy_of(op: &Op) -> Result<Op, Fail> {
+    Ok(Node::copy(op)?)
 }
 
 // The text of an operation's copy.
 fn printed(alloc: Global, op: &Op) -> Result<Vec<u8>, Fail> {
     let mut text = Vec::new(alloc);
-    Node::copy(op)?.print(&mut text)?;
+    copy_of(op)?.print(&mut text)?;
     Ok(text)
 }
 
@@ -97,10 +115,19 @@ fn each_row_is_read_and_printed(rt: HostRuntime) -> Result<(), Fail> {
     Ok(())
 }
 
+fn fault_of(alloc: Global, text: &str) -> Result<Option<OpFault>, Fail> {
+    Ok(read(alloc, text)?.err())
+}
+
+fn check_fault(rt: &impl Abort, alloc: Global, text: &str, want: OpFault) -> Result<(), Fail> {
+    assert_eq!(rt; fault_of(alloc, text)?, Some(want), "{text}");
+    Ok(())
+}
+
 // Each of the texts, with `|` between them, is refused for this fault.
 fn check_refused(rt: &impl Abort, alloc: Global, texts: &str, want: OpFault) -> Result<(), Fail> {
     for text in texts.split('|') {
-        assert_eq!(rt; read(alloc, text)?.err(), Some(want), "{text}");
+        check_fault(rt, alloc, text, want)?;
     }
     Ok(())
 }

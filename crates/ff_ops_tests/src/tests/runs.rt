@@ -1,5 +1,7 @@
 // Runs of an operation.
+use super::{copy_of, operation};
 use ff_node::{Next, Node, Sends};
+use ff_ops::Op;
 use ff_rec::{Record, split};
 use std::alloc::Global;
 use std::process::Abort;
@@ -9,12 +11,21 @@ use std::test::Fail;
 /// `/` behind each.
 pub fn check_runs(rt: &impl Abort, alloc: Global, runs: &str) -> Result<(), Fail> {
     for run in runs.lines() {
-        let (op, records) = run.split_once('|').ok_or("one part")?;
-        let (taken, answers) = records.split_once('|').ok_or("two parts")?;
-        let (sends, rejects) = answers.split_once('|').ok_or("three parts")?;
-        check_run(rt, alloc, op, taken, sends, rejects)?;
+        check_line(rt, alloc, run)?;
     }
     Ok(())
+}
+
+fn check_line(rt: &impl Abort, alloc: Global, run: &str) -> Result<(), Fail> {
+    let (op, records) = sides(run)?;
+    let (taken, answers) = sides(records)?;
+    let (sends, rejects) = sides(answers)?;
+    check_run(rt, alloc, op, taken, sends, rejects)
+}
+
+// What stands before the first `|`, and behind it.
+fn sides(text: &str) -> Result<(&str, &str), Fail> {
+    Ok(text.split_once('|').ok_or("a part is missing")?)
 }
 
 /// An operation that takes these records sends and rejects these, and so does its copy after that.
@@ -26,11 +37,36 @@ pub fn check_run(
     sends: &str,
     rejects: &str,
 ) -> Result<(), Fail> {
-    let mut node = super::read(alloc, op)??;
-    let mut first = run(alloc, &mut node, taken)?;
-    check_answers(rt, alloc, &mut first, sends, rejects, op)?;
-    let mut second = run(alloc, &mut Node::copy(&node)?, taken)?;
-    check_answers(rt, alloc, &mut second, sends, rejects, op)
+    let want = Want {
+        op,
+        taken,
+        sends,
+        rejects,
+    };
+    check_both(rt, alloc, &mut operation(alloc, op)?, &want)
+}
+
+// The words of an operation, and the records that it takes, sends and rejects.
+#[derive(Drop)]
+struct Want<'a> {
+    op: &'a str,
+    taken: &'a str,
+    sends: &'a str,
+    rejects: &'a str,
+}
+
+// Runs an operation, and then a copy of it.
+fn check_both(rt: &impl Abort, alloc: Global, op: &mut Op, want: &Want) -> Result<(), Fail> {
+    check_one(rt, alloc, op, want)?;
+    check_one(rt, alloc, &mut copy_of(op)?, want)
+}
+
+fn check_one(rt: &impl Abort, alloc: Global, op: &mut Op, want: &Want) -> Result<(), Fail> {
+    check_answers(rt, alloc, &mut run(alloc, op, want.taken)?, want)
+}
+
+fn record_of(alloc: Global, line: &str) -> Result<Record, Fail> {
+    Ok(Record::of_line(alloc, split(line.as_bytes(), b'\n').0)?)
 }
 
 // What a node sends and rejects when it takes these records.
@@ -38,7 +74,7 @@ fn run(alloc: Global, node: &mut impl Node, taken: &str) -> Result<Sends, Fail> 
     let mut out = Sends::new(alloc, true);
     node.svc_init();
     for line in taken.split_terminator('/') {
-        let r = Record::of_line(alloc, split(line.as_bytes(), b'\n').0)?;
+        let r = record_of(alloc, line)?;
         if node.svc(r, &mut out)? == Next::Eos {
             break;
         }
@@ -47,25 +83,21 @@ fn run(alloc: Global, node: &mut impl Node, taken: &str) -> Result<Sends, Fail> 
     Ok(out)
 }
 
-fn check_answers(
-    rt: &impl Abort,
-    alloc: Global,
-    out: &mut Sends,
-    sends: &str,
-    rejects: &str,
-    op: &str,
-) -> Result<(), Fail> {
-    assert_eq!(rt;
-        all_sends(alloc, out)?.as_slice(),
-        sends.as_bytes(),
-        "sent by {op}"
-    );
-    assert_eq!(rt;
-        all_rejects(alloc, out)?.as_slice(),
-        rejects.as_bytes(),
-        "rejected by {op}"
+fn check_answers(rt: &impl Abort, alloc: Global, out: &mut Sends, want: &Want) -> Result<(), Fail> {
+    expect_records(rt, &all_sends(alloc, out)?, want.sends, "sent", want.op);
+    expect_records(
+        rt,
+        &all_rejects(alloc, out)?,
+        want.rejects,
+        "rejected",
+        want.op,
     );
     Ok(())
+}
+
+// What was sent or rejected.
+fn expect_records(rt: &impl Abort, found: &[u8], want: &str, done: &str, op: &str) {
+    assert_eq!(rt; found, want.as_bytes(), "{done} by {op}");
 }
 
 // A record with a `/` behind it.
