@@ -2,9 +2,10 @@
 mod turning;
 
 use crate::{Outcome, run_one};
-use ff_net::{Net, Route, Test, Version, check};
+use ff_net::{Checked, Net, Route, Test, Version, check};
 use ff_node::{Cmp, Records};
 use ff_rec::{Field, Record};
+use std::process::Abort;
 use std::test::Fail;
 use turning::Turning;
 
@@ -22,27 +23,78 @@ fn record(rt: &HostRuntime, bytes: &[u8]) -> Result<Record, Fail> {
     Ok(Record::one(rt.alloc(), &field)?)
 }
 
+fn two(rt: &HostRuntime, fields: [&[u8]; 2]) -> Result<Records, Fail> {
+    let mut records = Records::new(rt.alloc());
+    records.push(record(rt, fields[0])?)?;
+    records.push(record(rt, fields[1])?)?;
+    Ok(records)
+}
+
+// A network, where there was memory for it.
+type Made = Result<Net<Turning>, Fail>;
+
 // A node that turns one number into another and rejects all else.
-fn turn(rt: &HostRuntime, from: i64, to: &[u8]) -> Result<Net<Turning>, Fail> {
+fn turn(rt: &HostRuntime, from: i64, to: &[u8]) -> Made {
     Ok(Net::Leaf(Turning {
         from: is(from),
         to: record(rt, to)?,
     }))
 }
 
-fn wrap(rt: &HostRuntime, worker: Net<Turning>, value: i64) -> Result<Net<Turning>, Fail> {
+fn nine_to_five(rt: &HostRuntime) -> Made {
+    turn(rt, 9, b"5")
+}
+
+fn five_to_three(rt: &HostRuntime) -> Made {
+    turn(rt, 5, b"3")
+}
+
+// Each 5 comes back.
+fn wrap(rt: &HostRuntime, worker: Net<Turning>) -> Made {
     Ok(Net::Wrap {
         workers: 2,
         worker: Box::new(rt.alloc(), worker)?,
-        test: is(value),
+        test: is(5),
     })
 }
 
-fn two(rt: &HostRuntime, first: &[u8], second: &[u8]) -> Result<Records, Fail> {
-    let mut records = Records::new(rt.alloc());
-    records.push(record(rt, first)?)?;
-    records.push(record(rt, second)?)?;
-    Ok(records)
+fn pipe(rt: &HostRuntime) -> Made {
+    let last = wrap(rt, five_to_three(rt)?)?;
+    Ok(Net::Pipe(vec![in rt.alloc(); nine_to_five(rt)?, last]?))
+}
+
+fn comb(rt: &HostRuntime) -> Made {
+    let last = five_to_three(rt)?;
+    Ok(Net::Comb(vec![in rt.alloc(); nine_to_five(rt)?, last]?))
+}
+
+fn a2a(rt: &HostRuntime) -> Made {
+    let left_node = Box::new(rt.alloc(), nine_to_five(rt)?)?;
+    let right_node = Box::new(rt.alloc(), five_to_three(rt)?)?;
+    Ok(Net::A2a {
+        left: 3,
+        left_node,
+        route: Route::Rr,
+        right: 4,
+        right_node,
+    })
+}
+
+// The network, which keeps all rules.
+fn checked(net: Net<Turning>) -> Result<Checked<Turning>, Fail> {
+    Ok(check(net, Version::One).ok().ok_or("refused")?)
+}
+
+// Runs a network over two records of these fields.
+fn run(
+    rt: &HostRuntime,
+    net: Net<Turning>,
+    limit: u64,
+    keep: bool,
+    input: [&[u8]; 2],
+) -> Result<Outcome, Fail> {
+    let net = checked(net)?;
+    Ok(run_one(rt.alloc(), &net, limit, keep, two(rt, input)?)?)
 }
 
 // Whether these are records of one field each, with these bytes.
@@ -58,85 +110,63 @@ fn are(records: &Records, fields: &[&[u8]]) -> bool {
     true
 }
 
-// What a network sends and rejects, and what it hands over of that, where it isn't over its limit.
-fn run(
-    rt: &HostRuntime,
-    net: Net<Turning>,
-    limit: u64,
-    keep: bool,
-    input: Records,
-) -> Result<Option<(Records, u64, Records)>, Fail> {
-    let checked = check(net, Version::One).ok().ok_or("refused")?;
-    match run_one(rt.alloc(), &checked, limit, keep, input)? {
+// A run sent this, rejected so many, and handed these of them over.
+fn expect(rt: &impl Abort, run: &Outcome, wants: &[&[u8]], count: u64, rejects: &[&[u8]]) {
+    match run {
         Outcome::Done {
             sent,
             rejected,
             kept,
-        } => Ok(Some((sent, rejected, kept))),
-        Outcome::Over => Ok(None),
+        } => {
+            assert!(rt; are(sent, wants));
+            assert_eq!(rt; *rejected, count);
+            assert!(rt; are(kept, rejects));
+        }
+        Outcome::Over => panic!(rt; "over"),
     }
+}
+
+fn run_pipe(rt: &HostRuntime, keep: bool) -> Result<Outcome, Fail> {
+    run(rt, pipe(rt)?, 1, keep, [b"9", b"4"])
 }
 
 #[test]
 fn a_pipe_with_a_wrap(rt: HostRuntime) -> Result<(), Fail> {
-    for keep in [true, false] {
-        let first = turn(&rt, 9, b"5")?;
-        let second = wrap(&rt, turn(&rt, 5, b"3")?, 5)?;
-        let net = Net::Pipe(vec![in rt.alloc(); first, second]?);
-        let answer = run(&rt, net, 1, keep, two(&rt, b"9", b"4")?)?;
-        let (sent, rejected, kept) = answer.ok_or("over")?;
-        assert!(rt; are(&sent, &[b"3"]));
-        assert_eq!(rt; rejected, 1);
-        if keep {
-            assert!(rt; are(&kept, &[b"4"]));
-        } else {
-            assert!(rt; kept.is_empty());
-        }
-    }
+    expect(&rt, &run_pipe(&rt, true)?, &[b"3"], 1, &[b"4"]);
+    expect(&rt, &run_pipe(&rt, false)?, &[b"3"], 1, &[]);
     Ok(())
+}
+
+// Two tasks are fed, and each 9 is a 5 that comes back, which the worker rejects.
+fn run_four_tasks(rt: &HostRuntime, limit: u64) -> Result<Outcome, Fail> {
+    let net = wrap(rt, nine_to_five(rt)?)?;
+    run(rt, net, limit, true, [b"9", b"9"])
+}
+
+fn expect_over(rt: &impl Abort, run: &Outcome) {
+    assert!(rt; matches!(run, Outcome::Over));
 }
 
 #[test]
 fn a_wrap_at_its_limit(rt: HostRuntime) -> Result<(), Fail> {
-    // Two tasks are fed, and each 9 is a 5 that comes back, which the worker rejects.
-    let enough = wrap(&rt, turn(&rt, 9, b"5")?, 5)?;
-    let answer = run(&rt, enough, 4, true, two(&rt, b"9", b"9")?)?;
-    let (sent, rejected, kept) = answer.ok_or("over")?;
-    assert!(rt; sent.is_empty());
-    assert_eq!(rt; rejected, 2);
-    assert!(rt; are(&kept, &[b"5", b"5"]));
-
-    let one_short = wrap(&rt, turn(&rt, 9, b"5")?, 5)?;
-    assert!(rt; run(&rt, one_short, 3, true, two(&rt, b"9", b"9")?)?.is_none());
-    let fed_alone = wrap(&rt, turn(&rt, 9, b"5")?, 5)?;
-    assert!(rt; run(&rt, fed_alone, 1, true, two(&rt, b"9", b"9")?)?.is_none());
+    expect(&rt, &run_four_tasks(&rt, 4)?, &[], 2, &[b"5", b"5"]);
+    // One short, and what is fed alone.
+    expect_over(&rt, &run_four_tasks(&rt, 3)?);
+    expect_over(&rt, &run_four_tasks(&rt, 1)?);
     Ok(())
 }
 
 #[test]
 fn a_wrap_of_several_nodes(rt: HostRuntime) -> Result<(), Fail> {
-    let first = turn(&rt, 9, b"5")?;
-    let second = turn(&rt, 5, b"3")?;
-    let comb = Net::Comb(vec![in rt.alloc(); first, second]?);
-    let answer = run(&rt, wrap(&rt, comb, 5)?, 2, true, two(&rt, b"9", b"8")?)?;
-    let (sent, rejected, kept) = answer.ok_or("over")?;
-    assert!(rt; are(&sent, &[b"3"]));
-    assert_eq!(rt; rejected, 1);
-    assert!(rt; are(&kept, &[b"8"]));
+    let net = wrap(&rt, comb(&rt)?)?;
+    let run = run(&rt, net, 2, true, [b"9", b"8"])?;
+    expect(&rt, &run, &[b"3"], 1, &[b"8"]);
     Ok(())
 }
 
 #[test]
 fn an_all_to_all(rt: HostRuntime) -> Result<(), Fail> {
-    let net = Net::A2a {
-        left: 3,
-        left_node: Box::new(rt.alloc(), turn(&rt, 9, b"5")?)?,
-        route: Route::Rr,
-        right: 4,
-        right_node: Box::new(rt.alloc(), turn(&rt, 5, b"3")?)?,
-    };
-    let (sent, rejected, _) = run(&rt, net, 0, false, two(&rt, b"9", b"1")?)?.ok_or("over")?;
-    assert!(rt; are(&sent, &[b"3"]));
-    assert_eq!(rt; rejected, 1);
+    let run = run(&rt, a2a(&rt)?, 0, false, [b"9", b"1"])?;
+    expect(&rt, &run, &[b"3"], 1, &[]);
     Ok(())
 }
