@@ -23,10 +23,14 @@ fn record(rt: &HostRuntime, bytes: &[u8]) -> Result<Record, Fail> {
     Ok(Record::one(rt.alloc(), &field)?)
 }
 
+fn add(rt: &HostRuntime, records: &mut Records, bytes: &[u8]) -> Result<(), Fail> {
+    Ok(records.push(record(rt, bytes)?)?)
+}
+
 fn two(rt: &HostRuntime, fields: [&[u8]; 2]) -> Result<Records, Fail> {
     let mut records = Records::new(rt.alloc());
-    records.push(record(rt, fields[0])?)?;
-    records.push(record(rt, fields[1])?)?;
+    add(rt, &mut records, fields[0])?;
+    add(rt, &mut records, fields[1])?;
     Ok(records)
 }
 
@@ -110,6 +114,10 @@ fn are(records: &Records, fields: &[&[u8]]) -> bool {
     true
 }
 
+fn expect_records(rt: &impl Abort, found: &Records, wants: &[&[u8]]) {
+    assert!(rt; are(found, wants));
+}
+
 // A run sent this, rejected so many, and handed these of them over.
 fn expect(rt: &impl Abort, run: &Outcome, wants: &[&[u8]], count: u64, rejects: &[&[u8]]) {
     match run {
@@ -118,9 +126,9 @@ fn expect(rt: &impl Abort, run: &Outcome, wants: &[&[u8]], count: u64, rejects: 
             rejected,
             kept,
         } => {
-            assert!(rt; are(sent, wants));
+            expect_records(rt, sent, wants);
             assert_eq!(rt; *rejected, count);
-            assert!(rt; are(kept, rejects));
+            expect_records(rt, kept, rejects);
         }
         Outcome::Over => panic!(rt; "over"),
     }
@@ -156,17 +164,23 @@ fn a_wrap_at_its_limit(rt: HostRuntime) -> Result<(), Fail> {
     Ok(())
 }
 
+fn run_comb(rt: &HostRuntime) -> Result<Outcome, Fail> {
+    let net = wrap(rt, comb(rt)?)?;
+    run(rt, net, 2, true, [b"9", b"8"])
+}
+
 #[test]
 fn a_wrap_of_several_nodes(rt: HostRuntime) -> Result<(), Fail> {
-    let net = wrap(&rt, comb(&rt)?)?;
-    let run = run(&rt, net, 2, true, [b"9", b"8"])?;
-    expect(&rt, &run, &[b"3"], 1, &[b"8"]);
+    expect(&rt, &run_comb(&rt)?, &[b"3"], 1, &[b"8"]);
     Ok(())
+}
+
+fn run_a2a(rt: &HostRuntime) -> Result<Outcome, Fail> {
+    run(rt, a2a(rt)?, 0, false, [b"9", b"1"])
 }
 
 #[test]
 fn an_all_to_all(rt: HostRuntime) -> Result<(), Fail> {
-    let run = run(&rt, a2a(&rt)?, 0, false, [b"9", b"1"])?;
-    expect(&rt, &run, &[b"3"], 1, &[]);
+    expect(&rt, &run_a2a(&rt)?, &[b"3"], 1, &[]);
     Ok(())
 }
