@@ -10,10 +10,11 @@ mod units;
 mod wrap_nets;
 mod wraps;
 
-use ff_net::{Net, Version, check};
+use ff_net::{Checked, Net, Version, check};
 use ff_node::{Class, Next, Node, Records, Sends};
 use ff_rec::{Field, NoMemory, Record};
 use ff_steps::NetCore;
+use seen::holds;
 use std::alloc::Global;
 use std::process::Abort;
 use std::test::Fail;
@@ -93,6 +94,11 @@ fn shows(r: Option<&Record>, bytes: &[u8]) -> bool {
     }
 }
 
+// The network, which keeps all rules.
+fn checked<N: Node>(net: Net<N>) -> Result<Checked<N>, Fail> {
+    Ok(check(net, Version::Two).ok().ok_or("refused")?)
+}
+
 // The core of a network before its first event.
 fn opened<N: Node>(
     rt: &impl Abort,
@@ -101,7 +107,7 @@ fn opened<N: Node>(
     cap: u32,
     input: &str,
 ) -> Result<NetCore<N>, Fail> {
-    let checked = check(net, Version::Two).ok().ok_or("refused")?;
+    let checked = checked(net)?;
     assert!(rt; 1 <= cap && cap <= 4096);
     let input = records(alloc, input)?;
     Ok(NetCore::new(alloc, checked, cap, 1, true, input)?)
@@ -111,22 +117,48 @@ fn leaf(shut: bool) -> Net<Gate> {
     Net::Leaf(Gate { shut })
 }
 
+// Runs a schedule, and whether all have ended behind it is this.
+fn expect_run(rt: &impl Abort, core: &mut NetCore<Gate>, schedule: &[u32], ended: bool) {
+    holds(
+        rt,
+        &schedule,
+        "an end",
+        core.run_schedule(schedule) == ended,
+    );
+}
+
+// The output is the record of this field alone.
+fn expect_one(rt: &impl Abort, core: &NetCore<Gate>, bytes: &[u8]) {
+    holds(rt, &bytes, "one record", core.output().len() == 1);
+    holds(rt, &bytes, "the record", shows(core.output().get(0), bytes));
+}
+
+// So many were rejected, and the next one that is taken out is the record of this field.
+fn expect_reject(rt: &impl Abort, core: &mut NetCore<Gate>, count: u64, bytes: &[u8]) {
+    holds(rt, &bytes, "so many", core.rejected() == count);
+    let reject = core.take_reject();
+    holds(rt, &bytes, "the reject", shows(reject.as_ref(), bytes));
+}
+
+// So many were rejected, and none is left to be taken out.
+fn expect_no_reject(rt: &impl Abort, core: &mut NetCore<Gate>, count: u64) {
+    holds(rt, &count, "so many", core.rejected() == count);
+    holds(rt, &count, "none is left", core.take_reject().is_none());
+}
+
 #[test]
 fn one_record_through_one_node(rt: HostRuntime) -> Result<(), Fail> {
     let mut core = opened(&rt, rt.alloc(), leaf(false), 1, "a")?;
 
     // The feeder puts the record, the unit takes it and sends it, the drainer keeps it. No party has ended.
-    assert!(rt; !core.run_schedule(&[1, 0, 0, 2]));
-    assert_eq!(rt; core.output().len(), 1);
-    assert!(rt; shows(core.output().get(0), b"a"));
+    expect_run(&rt, &mut core, &[1, 0, 0, 2], false);
+    expect_one(&rt, &core, b"a");
 
     // Eos goes the same way, and the unit ends a step later. A unit that has ended stays so.
-    assert!(rt; core.run_schedule(&[1, 0, 0, 2, 0, 0]));
-    assert_eq!(rt; core.output().len(), 1);
-    assert!(rt; shows(core.output().get(0), b"a"));
-    assert!(rt; !core.short_of_memory());
-    assert_eq!(rt; core.rejected(), 0);
-    assert!(rt; core.take_reject().is_none());
+    expect_run(&rt, &mut core, &[1, 0, 0, 2, 0, 0], true);
+    expect_one(&rt, &core, b"a");
+    holds(&rt, &"at the end", "memory", !core.short_of_memory());
+    expect_no_reject(&rt, &mut core, 0);
     Ok(())
 }
 
@@ -136,15 +168,13 @@ fn rejects_along_the_pipeline(rt: HostRuntime) -> Result<(), Fail> {
     let mut core = opened(&rt, rt.alloc(), net, 2, "a b")?;
 
     // A number that names no party does nothing, nor does a step that finds its edge empty.
-    assert!(rt; !core.run_schedule(&[9, 4, 3, 0, 1]));
-    assert!(rt; !core.run_schedule(&[2, 2, 2, 2, 0, 0, 0, 0, 1, 1]));
-    assert_eq!(rt; core.rejected(), 2);
-    assert!(rt; shows(core.take_reject().as_ref(), b"a"));
+    expect_run(&rt, &mut core, &[9, 4, 3, 0, 1], false);
+    expect_run(&rt, &mut core, &[2, 2, 2, 2, 0, 0, 0, 0, 1, 1], false);
+    expect_reject(&rt, &mut core, 2, b"a");
 
-    assert!(rt; core.run_schedule(&[2, 0, 0, 0, 1, 1, 1, 3]));
-    assert!(rt; core.output().is_empty());
-    assert_eq!(rt; core.rejected(), 2);
-    assert!(rt; shows(core.take_reject().as_ref(), b"b"));
-    assert!(rt; core.take_reject().is_none());
+    expect_run(&rt, &mut core, &[2, 0, 0, 0, 1, 1, 1, 3], true);
+    holds(&rt, &"at the end", "no output", core.output().is_empty());
+    expect_reject(&rt, &mut core, 2, b"b");
+    expect_no_reject(&rt, &mut core, 2);
     Ok(())
 }

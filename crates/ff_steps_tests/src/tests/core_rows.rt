@@ -1,6 +1,6 @@
 // A thousand random schedules of each of six networks with copies of a node.
 use super::opened;
-use super::seen::{output, random, rejects};
+use super::seen::{holds, output, random, rejects, same, sorted};
 use super::sieve::{SIEVE, Sieve};
 use ff_net::{Net, Route, Sched};
 use ff_steps::NetCore;
@@ -78,24 +78,42 @@ fn runs(core: &mut NetCore<Sieve>, run: Run) -> bool {
     false
 }
 
-fn sorted(bytes: Vec<u8>) -> Result<Vec<u8>, Fail> {
-    let mut sorted = bytes;
-    sorted.sort()?;
-    Ok(sorted)
+fn expect_output(
+    rt: &impl Abort,
+    alloc: Global,
+    core: &NetCore<Sieve>,
+    run: Run,
+) -> Result<(), Fail> {
+    let given = output(alloc, core)?;
+    if matches!(run.form, Form::OFarm(_)) {
+        same(rt, &run, &given, OUTPUT);
+    }
+    same(rt, &run, &sorted(given)?, OUTPUT_BYTES);
+    Ok(())
+}
+
+// What is there once all have ended.
+fn check_answer(
+    rt: &impl Abort,
+    alloc: Global,
+    core: &mut NetCore<Sieve>,
+    run: Run,
+) -> Result<(), Fail> {
+    expect_output(rt, alloc, core, run)?;
+    let rejected = sorted(rejects(alloc, core)?)?;
+    same(rt, &run, &rejected, REJECT_BYTES);
+    Ok(())
+}
+
+fn core_of(rt: &impl Abort, alloc: Global, run: Run) -> Result<NetCore<Sieve>, Fail> {
+    opened(rt, alloc, network(alloc, run.form)?, run.cap, INPUT)
 }
 
 fn runs_to_the_answer(rt: &impl Abort, alloc: Global, run: Run) -> Result<(), Fail> {
-    let mut core = opened(rt, alloc, network(alloc, run.form)?, run.cap, INPUT)?;
-    assert!(rt; runs(&mut core, run), "{run:?}");
-    assert!(rt; !core.short_of_memory(), "{run:?}");
-    let given = output(alloc, &core)?;
-    if matches!(run.form, Form::OFarm(_)) {
-        assert_eq!(rt; given.as_slice(), OUTPUT, "{run:?}");
-    }
-    assert_eq!(rt; sorted(given)?.as_slice(), OUTPUT_BYTES, "{run:?}");
-    let rejected = rejects(alloc, &mut core)?;
-    assert_eq!(rt; sorted(rejected)?.as_slice(), REJECT_BYTES, "{run:?}");
-    Ok(())
+    let mut core = core_of(rt, alloc, run)?;
+    holds(rt, &run, "all ended", runs(&mut core, run));
+    holds(rt, &run, "memory was there", !core.short_of_memory());
+    check_answer(rt, alloc, &mut core, run)
 }
 
 fn all_run(rt: &impl Abort, alloc: Global, form: Form) -> Result<(), Fail> {

@@ -1,7 +1,7 @@
 // A thousand random schedules of each of four networks, whose middle node ends by itself.
 use super::narrow::{Narrow, narrow_of};
 use super::opened;
-use super::seen::{output, random, rejects};
+use super::seen::{holds, output, random, rejects, same};
 use ff_net::Net;
 use ff_steps::NetCore;
 use std::alloc::Global;
@@ -36,23 +36,34 @@ struct Run {
     seed: u32,
 }
 
+fn node(most: u64) -> Net<Narrow> {
+    Net::Leaf(narrow_of(most))
+}
+
+// The middle node and the last one.
+fn others(alloc: Global) -> Result<Vec<Net<Narrow>>, Fail> {
+    Ok(vec![in alloc; node(2), node(100)]?)
+}
+
+// All three nodes.
+fn three(alloc: Global) -> Result<Vec<Net<Narrow>>, Fail> {
+    Ok(vec![in alloc; node(100), node(2), node(100)]?)
+}
+
+fn pipe(alloc: Global, first: Net<Narrow>, last: Net<Narrow>) -> Result<Net<Narrow>, Fail> {
+    Ok(Net::Pipe(vec![in alloc; first, last]?))
+}
+
 fn network(alloc: Global, form: Form) -> Result<Net<Narrow>, Fail> {
-    let first = Net::Leaf(narrow_of(100));
-    let middle = Net::Leaf(narrow_of(2));
-    let last = Net::Leaf(narrow_of(100));
-    Ok(match form {
-        Form::Flat => Net::Pipe(vec![in alloc; first, middle, last]?),
+    match form {
+        Form::Flat => Ok(Net::Pipe(three(alloc)?)),
         Form::Nested => {
-            let front = Net::Pipe(vec![in alloc; first]?);
-            let back = Net::Pipe(vec![in alloc; middle, last]?);
-            Net::Pipe(vec![in alloc; front, back]?)
+            let front = Net::Pipe(vec![in alloc; node(100)]?);
+            pipe(alloc, front, Net::Pipe(others(alloc)?))
         }
-        Form::Paired => {
-            let others = Net::Comb(vec![in alloc; middle, last]?);
-            Net::Pipe(vec![in alloc; first, others]?)
-        }
-        Form::Joined => Net::Comb(vec![in alloc; first, middle, last]?),
-    })
+        Form::Paired => pipe(alloc, node(100), Net::Comb(others(alloc)?)),
+        Form::Joined => Ok(Net::Comb(three(alloc)?)),
+    }
 }
 
 // Ten numbers from 0 to 6. The parties are 0 to 4 at most.
@@ -75,7 +86,7 @@ fn run_tens(
     for _ in 0..20 {
         core.run_schedule(&ten(&mut seed));
         let text = output(alloc, core)?;
-        assert!(rt; OUTPUT.starts_with(&text), "{run:?}: {text:?}");
+        holds(rt, &(run, &text), "a beginning", OUTPUT.starts_with(&text));
     }
     Ok(())
 }
@@ -97,21 +108,25 @@ fn check_answer(
     core: &mut NetCore<Narrow>,
     run: Run,
 ) -> Result<(), Fail> {
-    assert!(rt; !core.short_of_memory() && !core.over(), "{run:?}");
     let output = output(alloc, core)?;
-    assert_eq!(rt; output.as_slice(), OUTPUT, "{run:?}");
+    same(rt, &run, &output, OUTPUT);
     let rejects = rejects(alloc, core)?;
-    assert_eq!(rt; rejects.as_slice(), REJECTS, "{run:?}");
-    let all_taken = core.rejected() == 2 && core.take_reject().is_none();
-    assert!(rt; all_taken, "{run:?}");
+    same(rt, &run, &rejects, REJECTS);
+    holds(rt, &run, "two rejects", core.rejected() == 2);
+    holds(rt, &run, "none is left", core.take_reject().is_none());
     Ok(())
 }
 
+fn core_of(rt: &impl Abort, alloc: Global, run: Run) -> Result<NetCore<Narrow>, Fail> {
+    opened(rt, alloc, network(alloc, run.form)?, run.cap, INPUT)
+}
+
 fn runs_to_the_answer(rt: &impl Abort, alloc: Global, run: Run) -> Result<(), Fail> {
-    let net = network(alloc, run.form)?;
-    let mut core = opened(rt, alloc, net, run.cap, INPUT)?;
+    let mut core = core_of(rt, alloc, run)?;
     run_tens(rt, alloc, &mut core, run)?;
-    assert!(rt; sweeps(&mut core), "{run:?}");
+    holds(rt, &run, "all ended", sweeps(&mut core));
+    holds(rt, &run, "memory was there", !core.short_of_memory());
+    holds(rt, &run, "no limit", !core.over());
     check_answer(rt, alloc, &mut core, run)
 }
 

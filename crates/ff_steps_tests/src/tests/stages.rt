@@ -9,6 +9,7 @@ use ff_port::{End, Inbox, Msg, Outbox, OwnPorts, PlainQueue, Ports, Put, Step};
 use ff_rec::Record;
 use ff_unit::{Stage, Unit};
 use std::alloc::Global;
+use std::process::Abort;
 use std::test::Fail;
 
 // The two queues of a stage.
@@ -25,6 +26,15 @@ fn put(q: &mut PlainQueue<Record>, m: Msg<Record>) -> Result<(), Fail>
         Put::Done => Ok(()),
         _ => Err("no room")?,
     }
+}
+
+// Puts a record of one field.
+fn put_item(alloc: Global, q: &mut PlainQueue<Record>, bytes: &[u8]) -> Result<(), Fail>
+    requires open { IsOpen (put_of q.old) }
+    ensures open { IsOpen (put_of q.new) }
+    ensures got { q.new.got ≡ q.old.got }
+{
+    put(q, Msg::Item(record(alloc, bytes)?))
 }
 
 // Steps until the unit ends, at most a hundred times.
@@ -75,35 +85,87 @@ fn ends(alloc: Global, inn: PlainQueue<Record>) -> Result<Ends, Fail>
     Ok(OwnPorts::new(ins, outs))
 }
 
-#[test]
-fn a_mark_stays_where_it_stands(rt: HostRuntime) -> Result<(), Fail> {
-    let mut inn = queue(rt.alloc())?;
-    put(&mut inn, Msg::Item(record(rt.alloc(), b"a")?))?;
-    put(&mut inn, Msg::Mark)?;
-    put(&mut inn, Msg::Item(record(rt.alloc(), b"b")?))?;
-    let Put::Done = inn.try_put(Msg::Eos) else {
-        panic!(rt; "no room");
-    };
-    let mut ports = ends(rt.alloc(), inn)?;
-    let mut stage = Stage::new(rt.alloc(), Gate { shut: false }, false);
-    assert_eq!(rt; run(&mut stage, &mut ports), Some(End::Eos));
+// Puts Eos.
+fn put_eos(rt: &impl Abort, q: &mut PlainQueue<Record>)
+    requires { IsOpen (put_of q.old) }
+    ensures { q.new.got ≡ q.old.got }
+{
+    match q.try_put(Msg::Eos) {
+        Put::Done => {}
+        _ => panic!(rt; "no room"),
+    }
+}
+
+// Puts two records, with a mark between them.
+fn put_marked(alloc: Global, q: &mut PlainQueue<Record>) -> Result<(), Fail>
+    requires open { IsOpen (put_of q.old) }
+    ensures open { IsOpen (put_of q.new) }
+    ensures got { q.new.got ≡ q.old.got }
+{
+    put_item(alloc, q, b"a")?;
+    put(q, Msg::Mark)?;
+    put_item(alloc, q, b"b")
+}
+
+// A queue of two records, with a mark between them and Eos behind.
+fn marked(rt: &impl Abort, alloc: Global) -> Result<PlainQueue<Record>, Fail>
+    ensures { IfOk result (λ q. q.got ≡ []) }
+{
+    let mut q = queue(alloc)?;
+    put_marked(alloc, &mut q)?;
+    put_eos(rt, &mut q);
+    Ok(q)
+}
+
+// Runs a gate to Eos on this queue: its ends behind that.
+fn run_gate(rt: &impl Abort, alloc: Global, inn: PlainQueue<Record>) -> Result<Ends, Fail>
+    requires { inn.got ≡ [] }
+{
+    let mut ports = ends(alloc, inn)?;
+    let mut stage = Stage::new(alloc, Gate { shut: false }, false);
+    assert!(rt; run(&mut stage, &mut ports) == Some(End::Eos));
+    Ok(ports)
+}
+
+// Tells a gate to abort: its ends behind that.
+fn abort_gate(rt: &impl Abort, alloc: Global) -> Result<Ends, Fail> {
+    let mut ports = ends(alloc, queue(alloc)?)?;
+    let mut stage = Stage::new(alloc, Gate { shut: false }, false);
+    stage.abort(&mut ports);
+    assert!(rt; stage.end() == Some(End::Abort));
+    assert!(rt; stage.step(&mut ports) == Step::Ended(End::Abort));
+    Ok(ports)
+}
+
+// The out of a stage holds this.
+fn expect_out(rt: &impl Abort, alloc: Global, ports: Ends, want: &str) -> Result<(), Fail> {
     let (_, mut outs) = ports.into_ends();
     for out in &mut outs {
-        assert_eq!(rt; inside(rt.alloc(), out)?.as_str(), "a|b.");
+        expect_inside(rt, alloc, out, want)?;
     }
     Ok(())
 }
 
+fn expect_inside(
+    rt: &impl Abort,
+    alloc: Global,
+    q: &mut PlainQueue<Record>,
+    want: &str,
+) -> Result<(), Fail> {
+    let text = inside(alloc, q)?;
+    assert_eq!(rt; text.as_str(), want);
+    Ok(())
+}
+
+#[test]
+fn a_mark_stays_where_it_stands(rt: HostRuntime) -> Result<(), Fail> {
+    let inn = marked(&rt, rt.alloc())?;
+    let ports = run_gate(&rt, rt.alloc(), inn)?;
+    expect_out(&rt, rt.alloc(), ports, "a|b.")
+}
+
 #[test]
 fn a_stage_that_is_told_to_abort_puts_abort(rt: HostRuntime) -> Result<(), Fail> {
-    let mut ports = ends(rt.alloc(), queue(rt.alloc())?)?;
-    let mut stage = Stage::new(rt.alloc(), Gate { shut: false }, false);
-    stage.abort(&mut ports);
-    assert_eq!(rt; stage.end(), Some(End::Abort));
-    assert_eq!(rt; stage.step(&mut ports), Step::Ended(End::Abort));
-    let (_, mut outs) = ports.into_ends();
-    for out in &mut outs {
-        assert_eq!(rt; inside(rt.alloc(), out)?.as_str(), "!");
-    }
-    Ok(())
+    let ports = abort_gate(&rt, rt.alloc())?;
+    expect_out(&rt, rt.alloc(), ports, "!")
 }

@@ -1,23 +1,28 @@
 // How many units networks have: a stage for each leaf and each comb, and the deals, merges and masters of the forms with copies.
-use super::{Gate, leaf};
-use ff_net::{Net, Route, Sched, Test, Version, check};
+use super::{Gate, checked, leaf};
+use ff_net::{Net, Route, Sched, Test};
 use ff_node::Cmp;
 use ff_steps::make_units;
 use std::alloc::Global;
 use std::test::Fail;
 
 fn count(alloc: Global, net: Net<Gate>) -> Result<usize, Fail> {
-    let checked = check(net, Version::Two).ok().ok_or("refused")?;
-    Ok(make_units(alloc, &checked, 1, true)?.len())
+    Ok(make_units(alloc, &checked(net)?, 1, true)?.len())
+}
+
+fn comb(alloc: Global) -> Result<Net<Gate>, Fail> {
+    Ok(Net::Comb(vec![in alloc; leaf(false), leaf(true)]?))
+}
+
+fn pipe(alloc: Global) -> Result<Net<Gate>, Fail> {
+    let inner = Net::Pipe(vec![in alloc; leaf(false)]?);
+    Ok(Net::Pipe(vec![in alloc; leaf(false), comb(alloc)?, inner]?))
 }
 
 #[test]
 fn a_unit_for_each_leaf_and_each_comb(rt: HostRuntime) -> Result<(), Fail> {
-    let alloc = rt.alloc();
-    let comb = Net::Comb(vec![in alloc; leaf(false), leaf(true)]?);
-    let pipe = Net::Pipe(vec![in alloc; leaf(false)]?);
-    let net = Net::Pipe(vec![in alloc; leaf(false), comb, pipe]?);
-    assert_eq!(rt; count(alloc, net)?, 3);
+    let net = pipe(rt.alloc())?;
+    assert_eq!(rt; count(rt.alloc(), net)?, 3);
     Ok(())
 }
 
@@ -58,10 +63,9 @@ fn an_all_to_all(rt: HostRuntime) -> Result<(), Fail> {
 #[test]
 fn a_wrap(rt: HostRuntime) -> Result<(), Fail> {
     let alloc = rt.alloc();
-    let comb = Net::Comb(vec![in alloc; leaf(false), leaf(true)]?);
     let net = Net::Wrap {
         workers: 3,
-        worker: Box::new(alloc, comb)?,
+        worker: Box::new(alloc, comb(alloc)?)?,
         test: Test {
             field: 1,
             cmp: Cmp::Eq,

@@ -47,19 +47,41 @@ fn giving_up(alloc: Global, at: i64) -> Result<Net<Doubling>, Fail> {
     }))
 }
 
-// A wrap whose workers are these nodes before those that double; each record of a number above 0 is a task.
-fn wrap(alloc: Global, workers: u32, first: Net<Doubling>) -> Result<Net<Doubling>, Fail> {
-    let rejecting = Doubling {
+// Adds a node that sends this twice for that number.
+fn add_doubling(
+    nodes: &mut Vec<Net<Doubling>>,
+    alloc: Global,
+    from: i64,
+    to: &[u8],
+) -> Result<(), Fail> {
+    Ok(nodes.push(Net::Leaf(doubling(alloc, from, to)?))?)
+}
+
+// Adds a node that rejects this number.
+fn add_rejecting(nodes: &mut Vec<Net<Doubling>>, alloc: Global, at: i64) -> Result<(), Fail> {
+    let node = doubling(alloc, at, b"?")?;
+    Ok(nodes.push(Net::Leaf(Doubling {
         rejects: true,
-        ..doubling(alloc, 7, b"?")?
-    };
-    let ones = Net::Leaf(doubling(alloc, 1, b"a")?);
-    let threes = Net::Leaf(doubling(alloc, 3, b"1")?);
-    let fives = Net::Leaf(doubling(alloc, 5, b"3")?);
-    let worker = Net::Comb(vec![in alloc; first, Net::Leaf(rejecting), ones, threes, fives]?);
+        ..node
+    }))?)
+}
+
+// This node before those that reject and double.
+fn worker(alloc: Global, first: Net<Doubling>) -> Result<Net<Doubling>, Fail> {
+    let mut nodes = Vec::new(alloc);
+    nodes.push(first)?;
+    add_rejecting(&mut nodes, alloc, 7)?;
+    add_doubling(&mut nodes, alloc, 1, b"a")?;
+    add_doubling(&mut nodes, alloc, 3, b"1")?;
+    add_doubling(&mut nodes, alloc, 5, b"3")?;
+    Ok(Net::Comb(nodes))
+}
+
+// A wrap whose workers are this node before others; each record of a number above 0 is a task.
+fn wrap(alloc: Global, workers: u32, first: Net<Doubling>) -> Result<Net<Doubling>, Fail> {
     Ok(Net::Wrap {
         workers,
-        worker: Box::new(alloc, worker)?,
+        worker: Box::new(alloc, worker(alloc, first)?)?,
         test: Test {
             field: 1,
             cmp: Cmp::Gt,
@@ -73,18 +95,27 @@ fn still(alloc: Global) -> Result<Net<Doubling>, Fail> {
     Ok(Net::Leaf(doubling(alloc, 99, b"?")?))
 }
 
+fn between(alloc: Global) -> Result<Net<Doubling>, Fail> {
+    let mut parts = Vec::new(alloc);
+    parts.push(still(alloc)?)?;
+    parts.push(wrap(alloc, 2, still(alloc)?)?)?;
+    parts.push(still(alloc)?)?;
+    Ok(Net::Pipe(parts))
+}
+
+fn broken(alloc: Global, at: i64) -> Result<Net<Doubling>, Fail> {
+    let mut parts = Vec::new(alloc);
+    parts.push(giving_up(alloc, at)?)?;
+    parts.push(wrap(alloc, 2, still(alloc)?)?)?;
+    Ok(Net::Pipe(parts))
+}
+
 // The network of this form.
 pub(super) fn network(alloc: Global, form: Form) -> Result<Net<Doubling>, Fail> {
-    Ok(match form {
-        Form::Alone(workers) => wrap(alloc, workers, still(alloc)?)?,
-        Form::Between => {
-            let middle = wrap(alloc, 2, still(alloc)?)?;
-            Net::Pipe(vec![in alloc; still(alloc)?, middle, still(alloc)?]?)
-        }
-        Form::Broken(at) => {
-            let last = wrap(alloc, 2, still(alloc)?)?;
-            Net::Pipe(vec![in alloc; giving_up(alloc, at)?, last]?)
-        }
-        Form::Weak(at) => wrap(alloc, 2, giving_up(alloc, at)?)?,
-    })
+    match form {
+        Form::Alone(workers) => wrap(alloc, workers, still(alloc)?),
+        Form::Between => between(alloc),
+        Form::Broken(at) => broken(alloc, at),
+        Form::Weak(at) => wrap(alloc, 2, giving_up(alloc, at)?),
+    }
 }

@@ -1,9 +1,8 @@
 // A thousand random schedules of each of four networks with feedback, and of some that are cut off.
 use super::doubling::Doubling;
-use super::records;
-use super::seen::{output, random, rejects};
+use super::seen::{holds, output, random, rejects, same, sorted};
 use super::wrap_nets::{Form, network};
-use ff_net::{Version, check};
+use super::{checked, records};
 use ff_steps::NetCore;
 use std::alloc::Global;
 use std::process::Abort;
@@ -30,9 +29,7 @@ struct Run {
 
 // The core of a network before its first event.
 fn opened(rt: &impl Abort, alloc: Global, run: Run) -> Result<NetCore<Doubling>, Fail> {
-    let checked = check(network(alloc, run.form)?, Version::Two)
-        .ok()
-        .ok_or("refused")?;
+    let checked = checked(network(alloc, run.form)?)?;
     assert!(rt; 1 <= run.cap && run.cap <= 4096);
     let input = records(alloc, INPUT)?;
     Ok(NetCore::new(alloc, checked, run.cap, run.limit, true, input)?)
@@ -58,26 +55,31 @@ fn runs(core: &mut NetCore<Doubling>, run: Run) -> bool {
     false
 }
 
-fn sorted(bytes: Vec<u8>) -> Result<Vec<u8>, Fail> {
-    let mut sorted = bytes;
-    sorted.sort()?;
-    Ok(sorted)
+// The output and the rejects are right.
+fn check_answer(
+    rt: &impl Abort,
+    alloc: Global,
+    core: &mut NetCore<Doubling>,
+    run: Run,
+) -> Result<(), Fail> {
+    let given = sorted(output(alloc, core)?)?;
+    same(rt, &run, &given, OUTPUT_BYTES);
+    let rejected = rejects(alloc, core)?;
+    same(rt, &run, &rejected, REJECTS);
+    Ok(())
 }
 
 // All have ended, with memory, and the limit was passed as told; where it wasn't, the output and the rejects are right.
 fn ends(rt: &impl Abort, alloc: Global, run: Run) -> Result<(), Fail> {
     let mut core = opened(rt, alloc, run)?;
-    assert!(rt; runs(&mut core, run), "{run:?}");
-    assert!(rt; !core.short_of_memory(), "{run:?}");
-    assert_eq!(rt; core.over(), run.limit < TASKS, "{run:?}");
-    if core.over() {
+    holds(rt, &run, "all ended", runs(&mut core, run));
+    holds(rt, &run, "memory was there", !core.short_of_memory());
+    let over = core.over();
+    holds(rt, &run, "the limit", over == (run.limit < TASKS));
+    if over {
         return Ok(());
     }
-    let given = sorted(output(alloc, &core)?)?;
-    assert_eq!(rt; given.as_slice(), OUTPUT_BYTES, "{run:?}");
-    let rejected = rejects(alloc, &mut core)?;
-    assert_eq!(rt; rejected.as_slice(), REJECTS, "{run:?}");
-    Ok(())
+    check_answer(rt, alloc, &mut core, run)
 }
 
 fn all_end(rt: &impl Abort, alloc: Global, form: Form, limit: u64) -> Result<(), Fail> {
@@ -116,6 +118,14 @@ fn a_wrap_between_two_nodes(rt: HostRuntime) -> Result<(), Fail> {
 }
 
 // Where a node before the wrap or a worker gives up, Abort goes on to all, and all end.
+fn is_cut_off(rt: &impl Abort, alloc: Global, run: Run) -> Result<(), Fail> {
+    let mut core = opened(rt, alloc, run)?;
+    holds(rt, &run, "all ended", runs(&mut core, run));
+    holds(rt, &run, "memory was short", core.short_of_memory());
+    holds(rt, &run, "the limit", !core.over());
+    Ok(())
+}
+
 fn all_are_cut_off(rt: &impl Abort, alloc: Global, form: Form) -> Result<(), Fail> {
     for cap in [1, 2, 64] {
         for seed in 1..49 {
@@ -125,9 +135,7 @@ fn all_are_cut_off(rt: &impl Abort, alloc: Global, form: Form) -> Result<(), Fai
                 limit: 1000,
                 seed,
             };
-            let mut core = opened(rt, alloc, run)?;
-            assert!(rt; runs(&mut core, run), "{run:?}");
-            assert!(rt; core.short_of_memory() && !core.over(), "{run:?}");
+            is_cut_off(rt, alloc, run)?;
         }
     }
     Ok(())
