@@ -4,11 +4,15 @@ ghost use Rattle.std.specs.Io.KnownBytes.{ReadConsumes, WriteAppends};
 ghost use Rattle.ff_io.specs.Bytes.{is_end};
 ghost use Rattle.ff_io.specs.Faults.{HasCause, count_after};
 
-use super::runs::{DONE, RINGS, checked, gates, summary};
+use super::devices::{DONE, Host, RINGS, Ring, checked, expect_answer, run, sink_of, source_of};
+use super::runs::gates;
 use crossbeam_utils::atomic::AtomicCell;
-use ff_engine::run_net;
 use ff_io::{Failed, MemSink, MemSource, Sink, Source};
+use ff_net::Checked;
 use ff_spawn::Threads;
+use ff_test_nodes::Gate;
+use std::alloc::Global;
+use std::process::Abort;
 use std::sync::Arc;
 use std::test::Fail;
 
@@ -59,41 +63,55 @@ impl<S: Source> Source for Noting<S> {
     }
 }
 
+// A source of eight lines, of which a read gives one.
+fn noting_source(alloc: Global, taken: Arc<AtomicCell<usize>>) -> Result<Noting<MemSource>, Fail> {
+    Ok(Noting {
+        inner: source_of(alloc, b"1\n2\n3\n4\n5\n6\n7\n8\n", 0)?,
+        taken,
+        given: 0,
+        reads: 0,
+        late: 0,
+    })
+}
+
+fn telling_sink(alloc: Global, taken: Arc<AtomicCell<usize>>) -> Result<Telling<MemSink>, Fail> {
+    Ok(Telling {
+        inner: sink_of(alloc, 99)?,
+        taken,
+    })
+}
+
+// All eight lines and the end were read, each when what came before had been taken.
+fn expect_none_late(rt: &impl Abort, source: &Noting<MemSource>, cap: u32) {
+    assert_eq!(rt; (source.reads, source.late), (9, 0), "at {cap}");
+}
+
+fn check_slow<R: Host>(rt: &R, alloc: Global, net: &Checked<Gate>, ring: Ring) -> Result<(), Fail> {
+    let taken = Arc::new(alloc, AtomicCell::new(0))?;
+    let mut source = noting_source(alloc, Arc::try_clone(&taken)?)?;
+    let mut sink = telling_sink(alloc, taken)?;
+    let mut spawner = Threads::new(rt.clone()?);
+    let answer = run(
+        rt,
+        alloc,
+        net,
+        ring,
+        1,
+        &mut source,
+        &mut sink,
+        &mut spawner,
+    );
+    expect_answer(rt, (b"", ring.0), answer, DONE, 0);
+    expect_none_late(rt, &source, ring.0);
+    Ok(())
+}
+
 // A line a read, through four threads that send on what they get.
 #[test]
 fn results_are_shown_before_the_next_read(rt: HostRuntime) -> Result<(), Fail> {
-    let alloc = rt.alloc();
-    let net = checked(gates(alloc)?)?;
-    for (cap, delivery) in RINGS {
-        let taken = Arc::new(alloc, AtomicCell::new(0))?;
-        let bytes = Vec::from_slice(alloc, b"1\n2\n3\n4\n5\n6\n7\n8\n")?;
-        let mut source = Noting {
-            inner: MemSource::new(bytes, 2, Vec::new(alloc)),
-            taken: Arc::try_clone(&taken)?,
-            given: 0,
-            reads: 0,
-            late: 0,
-        };
-        let mut sink = Telling {
-            inner: MemSink::new(alloc, 99, Vec::new(alloc))?,
-            taken,
-        };
-        let mut spawner = Threads::new(rt.clone()?);
-        let cap = cap.clamp(1, 4096);
-        let answer = run_net(
-            &rt,
-            alloc,
-            &net,
-            cap,
-            delivery,
-            1,
-            true,
-            &mut source,
-            &mut sink,
-            &mut spawner,
-        );
-        assert_eq!(rt; summary(answer), (DONE, 0, 0));
-        assert_eq!(rt; (source.reads, source.late), (9, 0), "at {cap}");
+    let net = checked(gates(rt.alloc())?)?;
+    for ring in RINGS {
+        check_slow(&rt, rt.alloc(), &net, ring)?;
     }
     Ok(())
 }
