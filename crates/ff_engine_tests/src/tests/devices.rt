@@ -160,6 +160,12 @@ fn expect_unread(rt: &impl Abort, source: &mut MemSource) {
     assert_eq!(rt; source.read(&mut buf), Ok(2));
 }
 
+// A spawner of threads that refuses this start.
+fn refusing<R: Host>(rt: &R, alloc: Global, refused: u64) -> Result<RefuseAt<Threads<R>>, Fail> {
+    let threads = Threads::new(rt.clone()?);
+    Ok(RefuseAt::new(threads, vec![in alloc; refused]?))
+}
+
 /// Runs a network of which this start is refused: nothing is read or written.
 pub fn check_refused<R: Host>(
     rt: &R,
@@ -171,7 +177,7 @@ pub fn check_refused<R: Host>(
 ) -> Result<(), Fail> {
     let mut source = source_of(alloc, b"1\n", 0)?;
     let mut sink = sink_of(alloc, 99)?;
-    let mut spawner = RefuseAt::new(Threads::new(rt.clone()?), vec![in alloc; refused]?);
+    let mut spawner = refusing(rt, alloc, refused)?;
     let answer = run(
         rt,
         alloc,
