@@ -7,7 +7,7 @@ ghost use Rattle.ff_test_ports.specs.Fickle.{nothing_at};
 use super::letters::{next_at, play, send};
 use ff_port::{Msg, Past, Ports, Put};
 use ff_rec::Record;
-use std::alloc::Global;
+use std::alloc::{AllocError, Global};
 use std::collections::VecDeque;
 use std::test::Fail;
 
@@ -37,18 +37,13 @@ impl Players {
         ensures gots { IfOk result (λ p. p.got.items ≡ replicate (suc workers) []) }
         ensures puts { IfOk result (λ p. p.put.items ≡ replicate (suc workers) []) }
     {
-        let mut coming = Vec::new(alloc);
-        let mut seen = Vec::new(alloc);
-        for _ in 0..workers + 1 {
-            coming.push(VecDeque::new(alloc))?;
-            seen.push(String::new(alloc))?;
-        }
+        let mut coming = nothing_coming(alloc, workers + 1)?;
         send(&mut coming, 0, fed)?;
         Ok(Players {
             got: nothing_passed(alloc, workers + 1)?,
             put: nothing_passed(alloc, workers + 1)?,
             coming,
-            seen,
+            seen: nothing_seen(alloc, workers + 1)?,
             answers,
             alloc,
         })
@@ -63,6 +58,24 @@ impl Players {
         }
         Ok(all)
     }
+}
+
+// Nothing comes at any of so many.
+fn nothing_coming(alloc: Global, count: usize) -> Result<Vec<VecDeque<u8>>, AllocError> {
+    let mut all = Vec::new(alloc);
+    for _ in 0..count {
+        all.push(VecDeque::new(alloc))?;
+    }
+    Ok(all)
+}
+
+// Nothing was put at any of so many.
+fn nothing_seen(alloc: Global, count: usize) -> Result<Vec<String>, AllocError> {
+    let mut all = Vec::new(alloc);
+    for _ in 0..count {
+        all.push(String::new(alloc))?;
+    }
+    Ok(all)
 }
 
 // Nothing passed at any of so many.

@@ -1,5 +1,7 @@
 // A master between queues, whose workers the test plays.
-ghost use Rattle.std.specs.Prelude.{◌≤◌};
+ghost use Rattle.std.specs.Prelude.{◌≡◌, ◌≤◌, [], suc, replicate, IfOk};
+ghost use Rattle.ff_unit.specs.Units.{Ran};
+ghost use Rattle.ff_loop.specs.WrapMasters.{wrap_does};
 
 mod ends;
 mod rounds;
@@ -10,6 +12,7 @@ use ff_loop::WrapMaster;
 use ff_net::Test;
 use ff_node::Cmp;
 use ff_port::End;
+use ff_rec::NoMemory;
 use ff_test_ports::Fickle;
 use std::alloc::Global;
 use std::process::Abort;
@@ -35,24 +38,98 @@ struct Played {
     over: bool,
 }
 
-// A master of which the records above 0 go round. Memory is there for so many puts.
-fn play(alloc: Global, case: Case, seed: u32, memory: u32) -> Result<Played, Fail>
+// The ports of a master. Memory is there for so many puts.
+fn ports_of(alloc: Global, case: Case, seed: u32, memory: u32) -> Result<Fickle<Players>, Fail>
+    requires { case.workers ≤ 64 }
+    ensures gots { IfOk result (λ p. p.ports.got.items ≡ replicate (suc case.workers) []) }
+    ensures puts { IfOk result (λ p. p.ports.put.items ≡ replicate (suc case.workers) []) }
+{
+    let players = Players::new(alloc, case.fed, case.workers as usize, case.answers)?;
+    let mut ports = Fickle::new(players, seed);
+    ports.set_memory(memory);
+    Ok(ports)
+}
+
+// How a master ends, and whether there were too many tasks.
+fn ran(master: &mut WrapMaster, ports: &mut Fickle<Players>) -> (Option<End>, bool)
+    requires { Ran wrap_does master.old ports.old.ports.got.items ports.old.ports.put.items }
+{
+    let end = run(master, ports);
+    (end, master.over())
+}
+
+// A master of which the records above 0 go round: how it ends, and whether there were too many tasks.
+fn ended(
+    alloc: Global,
+    case: Case,
+    ports: &mut Fickle<Players>,
+) -> Result<(Option<End>, bool), NoMemory>
     requires some { 1 ≤ case.workers }
     requires few { case.workers ≤ 64 }
+    requires gots { ports.old.ports.got.items ≡ replicate (suc case.workers) [] }
+    requires puts { ports.old.ports.put.items ≡ replicate (suc case.workers) [] }
 {
     let test = Test {
         field: 1,
         cmp: Cmp::Gt,
         value: 0,
     };
-    let players = Players::new(alloc, case.fed, case.workers as usize, case.answers)?;
-    let mut ports = Fickle::new(players, seed);
-    ports.set_memory(memory);
-    let mut master = WrapMaster::new(alloc, test, case.limit, case.workers)?;
-    let end = run(&mut master, &mut ports);
-    let over = master.over();
+    match WrapMaster::new(alloc, test, case.limit, case.workers) {
+        Ok(mut master) => Ok(ran(&mut master, ports)),
+        Err(no_memory) => Err(no_memory),
+    }
+}
+
+// What such a master puts, and how it ends.
+fn play(alloc: Global, case: Case, seed: u32, memory: u32) -> Result<Played, Fail>
+    requires some { 1 ≤ case.workers }
+    requires few { case.workers ≤ 64 }
+{
+    let mut ports = ports_of(alloc, case, seed, memory)?;
+    let (end, over) = ended(alloc, case, &mut ports)?;
     let put = ports.into_inner().scripts()?;
     Ok(Played { put, end, over })
+}
+
+// Under one order a master puts one of these and ends so. What it put is handed on.
+fn puts_one(
+    rt: &impl Abort,
+    alloc: Global,
+    case: Case,
+    wanted: &[&str],
+    want: (End, bool),
+    seed: u32,
+) -> Result<String, Fail>
+    requires some { 1 ≤ case.workers }
+    requires few { case.workers ≤ 64 }
+{
+    let played = play(alloc, case, seed, u32::MAX)?;
+    ends_so(rt, case, seed, &played, want);
+    let Played { put, .. } = played;
+    let is_one = wanted.iter().any(|one| *one == put.as_str());
+    assert!(rt; is_one, "{} {} {seed}: {put}", case.fed, case.answers);
+    Ok(put)
+}
+
+// It ended so, and there were too many tasks or not.
+fn ends_so(rt: &impl Abort, case: Case, seed: u32, played: &Played, want: (End, bool)) {
+    let (end, over) = want;
+    assert_eq!(rt;
+        (played.end, played.over),
+        (Some(end), over),
+        "{} {} {seed}: {}",
+        case.fed,
+        case.answers,
+        played.put
+    );
+}
+
+// Each of these was put under some order.
+fn each_came(rt: &impl Abort, case: Case, came: &[String], wanted: &[&str]) {
+    for one in wanted {
+        let came = came.iter().any(|put| put.as_str() == *one);
+        assert!(rt; came, "{} {}: never {one}", case.fed, case.answers);
+    }
 }
 
 // What a master puts under all orders is one of these, and each of these comes under some order.
@@ -61,38 +138,15 @@ fn puts(
     alloc: Global,
     case: Case,
     wanted: &[&str],
-    end: End,
-    over: bool,
+    want: (End, bool),
 ) -> Result<(), Fail>
     requires some { 1 ≤ case.workers }
     requires few { case.workers ≤ 64 }
 {
-    let (fed, answers) = (case.fed, case.answers);
     let mut came = Vec::new(alloc);
     for seed in 1..=ORDERS {
-        let Played {
-            put,
-            end: ended,
-            over: is_over,
-        } = play(alloc, case, seed, u32::MAX)?;
-        assert_eq!(rt;
-            (ended, is_over),
-            (Some(end), over),
-            "{fed} {answers} {seed}: {put}"
-        );
-        assert!(rt; is_wanted(wanted, &put), "{fed} {answers} {seed}: {put}");
-        came.push(put)?;
+        came.push(puts_one(rt, alloc, case, wanted, want, seed)?)?;
     }
-    for one in wanted {
-        assert!(rt; comes(&came, one), "{fed} {answers}: never {one}");
-    }
+    each_came(rt, case, &came, wanted);
     Ok(())
-}
-
-fn is_wanted(wanted: &[&str], put: &str) -> bool {
-    wanted.iter().any(|one| *one == put)
-}
-
-fn comes(came: &[String], wanted: &str) -> bool {
-    came.iter().any(|put| put.as_str() == wanted)
 }
