@@ -1,11 +1,12 @@
 // A deal gives each record to one of its outs.
-ghost use Rattle.std.specs.Prelude.{◌≡◌, [], ◌∷◌, replicate, IfOk};
+ghost use Rattle.std.specs.Prelude.{◌≡◌, [], ◌∷◌, map, replicate, IfOk};
+ghost use Rattle.ff_port.specs.Queues.{put_of};
 ghost use Rattle.ff_unit.specs.Deals.{deal_does, deal_outs};
 ghost use Rattle.ff_unit.specs.Units.{Ran};
 
 use super::{ORDERS, run};
 use ff_port::End;
-use ff_test_ports::{ports_of, scripts_at};
+use ff_test_ports::{Fickle, QueuePorts, ports_of, scripts_at};
 use ff_unit::{Deal, Dealing};
 use std::alloc::Global;
 use std::process::Abort;
@@ -38,6 +39,15 @@ fn outs_of(way: Dealing, places: u32) -> usize
     }
 }
 
+// How such a deal between these ports ends.
+fn ended(way: Dealing, places: u32, ports: &mut Fickle<QueuePorts>) -> Result<Option<End>, Fail>
+    requires gots { map (λ q. q.got) ports.old.ports.ins.items ≡ [] ∷ [] }
+    requires puts { map (λ q. put_of q) ports.old.ports.outs.items ≡ replicate (deal_outs way places) [] }
+{
+    let mut deal = deal_of(way, places)?;
+    Ok(run(&mut deal, ports))
+}
+
 // What a deal of this in puts, out by out, and how it ends.
 fn dealt(
     alloc: Global,
@@ -47,9 +57,37 @@ fn dealt(
     seed: u32,
 ) -> Result<(String, Option<End>), Fail> {
     let mut ports = ports_of(alloc, &[script], outs_of(way, places), seed)?;
-    let mut deal = deal_of(way, places)?;
-    let end = run(&mut deal, &mut ports);
+    let end = ended(way, places, &mut ports)?;
     Ok((scripts_at(alloc, ports)?, end))
+}
+
+// How a deal ends whose in ends so.
+fn end_of(script: &str) -> End {
+    if script.ends_with('!') {
+        End::Abort
+    } else {
+        End::Eos
+    }
+}
+
+// Under one order a deal puts just this.
+fn deals_once(
+    rt: &impl Abort,
+    alloc: Global,
+    way: Dealing,
+    places: u32,
+    script: &str,
+    seed: u32,
+    wanted: &str,
+) -> Result<(), Fail> {
+    let end = Some(end_of(script));
+    let (outs, ended) = dealt(alloc, way, places, script, seed)?;
+    assert_eq!(rt;
+        (outs.as_str(), ended),
+        (wanted, end),
+        "{way:?} {script} {seed}"
+    );
+    Ok(())
 }
 
 // Under all orders a deal puts just this.
@@ -61,18 +99,20 @@ fn deals_so(
     script: &str,
     wanted: &str,
 ) -> Result<(), Fail> {
-    let end = if script.ends_with('!') {
-        End::Abort
-    } else {
-        End::Eos
-    };
     for seed in 1..=ORDERS {
-        let (outs, ended) = dealt(alloc, way, places, script, seed)?;
-        assert_eq!(rt;
-            (outs.as_str(), ended),
-            (wanted, Some(end)),
-            "{way:?} {script} {seed}"
-        );
+        deals_once(rt, alloc, way, places, script, seed, wanted)?;
+    }
+    Ok(())
+}
+
+// Each of these ways, places and ins gives these outs.
+fn each_deals_so(
+    rt: &impl Abort,
+    alloc: Global,
+    cases: &[(Dealing, u32, &str, &str)],
+) -> Result<(), Fail> {
+    for (way, places, script, wanted) in cases {
+        deals_so(rt, alloc, *way, *places, script, wanted)?;
     }
     Ok(())
 }
@@ -97,9 +137,35 @@ fn each_way_under_all_orders(rt: HostRuntime) -> Result<(), Fail> {
         (Dealing::GroupsOnDemand, 1, "ab.", "a|b|. 00. "),
         (Dealing::GroupsOnDemand, 1, "a!", "a|! 0! "),
     ];
-    for (way, places, script, wanted) in cases {
-        deals_so(&rt, rt.alloc(), way, places, script, wanted)?;
+    each_deals_so(&rt, rt.alloc(), &cases)
+}
+
+// A character stands so many times at the outs.
+fn has(rt: &impl Abort, outs: &str, letter: char, count: usize) {
+    let found = outs.chars().filter(|c| *c == letter).count();
+    assert_eq!(rt; found, count, "{letter}: {outs}");
+}
+
+// A deal to three outs that ends by Eos: what it puts.
+fn dealt_to_three(rt: &impl Abort, alloc: Global, way: Dealing, seed: u32) -> Result<String, Fail> {
+    let (outs, end) = dealt(alloc, way, 3, "abcdefgh.", seed)?;
+    assert_eq!(rt; end, Some(End::Eos), "{seed}");
+    Ok(outs)
+}
+
+// Each record stands once on some out.
+fn has_each_once(rt: &impl Abort, outs: &str) {
+    for letter in "abcdefgh".chars() {
+        has(rt, outs, letter, 1);
     }
+    has(rt, outs, '.', 3);
+}
+
+// Read by the picks, the outs give the in again.
+fn has_picks(rt: &impl Abort, alloc: Global, outs: &str) -> Result<(), Fail> {
+    has(rt, outs, '|', 8);
+    let letters = read_by_picks(alloc, outs)?;
+    assert_eq!(rt; letters.as_str(), "abcdefgh", "{outs}");
     Ok(())
 }
 
@@ -107,32 +173,10 @@ fn each_way_under_all_orders(rt: HostRuntime) -> Result<(), Fail> {
 #[test]
 fn on_demand_each_record_goes_to_one_out(rt: HostRuntime) -> Result<(), Fail> {
     for seed in 1..=ORDERS {
-        let (outs, end) = dealt(rt.alloc(), Dealing::OnDemand, 3, "abcdefgh.", seed)?;
-        assert_eq!(rt; end, Some(End::Eos), "{seed}");
-        for letter in "abcdefgh".chars() {
-            assert_eq!(rt;
-                outs.chars().filter(|c| *c == letter).count(),
-                1,
-                "{seed}: {outs}"
-            );
-        }
-        assert_eq!(rt;
-            outs.chars().filter(|c| *c == '.').count(),
-            3,
-            "{seed}: {outs}"
-        );
-        let (outs, end) = dealt(rt.alloc(), Dealing::GroupsOnDemand, 3, "abcdefgh.", seed)?;
-        assert_eq!(rt; end, Some(End::Eos), "{seed}");
-        assert_eq!(rt;
-            outs.chars().filter(|c| *c == '|').count(),
-            8,
-            "{seed}: {outs}"
-        );
-        assert_eq!(rt;
-            read_by_picks(rt.alloc(), &outs)?.as_str(),
-            "abcdefgh",
-            "{seed}: {outs}"
-        );
+        let outs = dealt_to_three(&rt, rt.alloc(), Dealing::OnDemand, seed)?;
+        has_each_once(&rt, &outs);
+        let outs = dealt_to_three(&rt, rt.alloc(), Dealing::GroupsOnDemand, seed)?;
+        has_picks(&rt, rt.alloc(), &outs)?;
     }
     Ok(())
 }
@@ -171,6 +215,13 @@ fn next_group(out: &mut Chars<'_>) -> Option<char> {
     letter
 }
 
+// Each of 64 outs has a record and its end.
+fn has_sixty_four(rt: &impl Abort, outs: &str) {
+    let records = outs.chars().filter(|c| c.is_ascii_lowercase()).count();
+    assert_eq!(rt; records, 64, "{outs}");
+    has(rt, outs, '.', 64);
+}
+
 // As many outs as may be, each with a record.
 #[test]
 fn sixty_four_outs(rt: HostRuntime) -> Result<(), Fail> {
@@ -178,12 +229,7 @@ fn sixty_four_outs(rt: HostRuntime) -> Result<(), Fail> {
     for way in [Dealing::InTurn, Dealing::GroupsInTurn, Dealing::OnDemand] {
         let (outs, end) = dealt(rt.alloc(), way, 64, script, 1)?;
         assert_eq!(rt; end, Some(End::Eos), "{way:?}");
-        assert_eq!(rt;
-            outs.chars().filter(|c| c.is_ascii_lowercase()).count(),
-            64,
-            "{way:?}"
-        );
-        assert_eq!(rt; outs.chars().filter(|c| *c == '.').count(), 64, "{way:?}");
+        has_sixty_four(&rt, &outs);
     }
     Ok(())
 }

@@ -9,12 +9,18 @@ use std::alloc::Global;
 use std::process::Abort;
 use std::test::Fail;
 
-// What a merge of these ins puts, and how it ends.
-fn merged(alloc: Global, scripts: &[&str], seed: u32) -> Result<(String, Option<End>), Fail>
+// What a merge of these ins puts, and how it ends. Memory is there for so many puts.
+fn merged(
+    alloc: Global,
+    scripts: &[&str],
+    seed: u32,
+    memory: u32,
+) -> Result<(String, Option<End>), Fail>
     requires some { 1 ≤ length scripts.now }
     requires few { length scripts.now ≤ 64 }
 {
     let mut ports = ports_of(alloc, scripts, 1, seed)?;
+    ports.set_memory(memory);
     let mut merge = Merge::new(scripts.len() as u32);
     let end = run(&mut merge, &mut ports);
     Ok((scripts_at(alloc, ports)?, end))
@@ -40,30 +46,60 @@ fn end_of(left: &str, right: &str) -> (End, &'static str) {
     }
 }
 
-// A merge of two ins under all orders. Their letters differ.
-fn merges_two(rt: &impl Abort, alloc: Global, left: &str, right: &str) -> Result<(), Fail> {
+// The out ends as these ins make it end, and has as many messages.
+fn ends_so(rt: &impl Abort, left: &str, right: &str, seed: u32, out: &str, ended: Option<End>) {
     let (end, last) = end_of(left, right);
+    let count = left.len() + right.len();
+    assert_eq!(rt;
+        (ended, out.ends_with(last), out.len()),
+        (Some(end), true, count),
+        "{left} {right} {seed}: {out}"
+    );
+}
+
+// The letters of one in come out in their order.
+fn keeps(
+    rt: &impl Abort,
+    alloc: Global,
+    letters: &str,
+    script: &str,
+    seed: u32,
+    out: &str,
+) -> Result<(), Fail> {
+    let kept = only(alloc, out, letters)?;
+    assert_eq!(rt;
+        kept.as_str(),
+        script.trim_end_matches(['.', '!']),
+        "{seed}: {out}"
+    );
+    Ok(())
+}
+
+// A merge of two ins under one order. Their letters differ.
+fn merges_once(
+    rt: &impl Abort,
+    alloc: Global,
+    left: &str,
+    right: &str,
+    seed: u32,
+) -> Result<(), Fail> {
+    let (out, ended) = merged(alloc, &[left, right], seed, u32::MAX)?;
+    ends_so(rt, left, right, seed, &out, ended);
+    keeps(rt, alloc, "abc", left, seed, &out)?;
+    keeps(rt, alloc, "DEF", right, seed, &out)
+}
+
+// A merge of two ins that end so, under all orders.
+fn merges_two(
+    rt: &impl Abort,
+    alloc: Global,
+    letters: (&str, &str),
+    ends: (char, char),
+) -> Result<(), Fail> {
+    let left = format!(in alloc; "{}{}", letters.0, ends.0)?;
+    let right = format!(in alloc; "{}{}", letters.1, ends.1)?;
     for seed in 1..=ORDERS {
-        let (out, ended) = merged(alloc, &[left, right], seed)?;
-        assert_eq!(rt; ended, Some(end), "{left} {right} {seed}");
-        assert!(rt; out.ends_with(last), "{left} {right} {seed}: {out}");
-        assert_eq!(rt;
-            out.len(),
-            left.len() + right.len(),
-            "{left} {right} {seed}: {out}"
-        );
-        let first = only(alloc, &out, "abc")?;
-        assert_eq!(rt;
-            first.as_str(),
-            left.trim_end_matches(['.', '!']),
-            "{seed}: {out}"
-        );
-        let second = only(alloc, &out, "DEF")?;
-        assert_eq!(rt;
-            second.as_str(),
-            right.trim_end_matches(['.', '!']),
-            "{seed}: {out}"
-        );
+        merges_once(rt, alloc, &left, &right, seed)?;
     }
     Ok(())
 }
@@ -73,12 +109,30 @@ fn merges_two(rt: &impl Abort, alloc: Global, left: &str, right: &str) -> Result
 fn each_in_ends_at_each_moment(rt: HostRuntime) -> Result<(), Fail> {
     for left in ["", "a", "ab", "abc"] {
         for right in ["", "D", "DE", "DEF"] {
-            for (first, second) in [('.', '.'), ('.', '!'), ('!', '.'), ('!', '!')] {
-                let left = format!(in rt.alloc(); "{left}{first}")?;
-                let right = format!(in rt.alloc(); "{right}{second}")?;
-                merges_two(&rt, rt.alloc(), &left, &right)?;
+            for ends in [('.', '.'), ('.', '!'), ('!', '.'), ('!', '!')] {
+                merges_two(&rt, rt.alloc(), (left, right), ends)?;
             }
         }
+    }
+    Ok(())
+}
+
+// So many records went on, and then what this end tells.
+fn is_cut(rt: &impl Abort, memory: u32, end: End, seed: u32, out: &str, ended: Option<End>) {
+    let last = if end == End::Eos { ". " } else { "! " };
+    let count = memory as usize + 2;
+    assert_eq!(rt;
+        (ended, out.len(), out.ends_with(last)),
+        (Some(end), count, true),
+        "{memory} {seed}: {out}"
+    );
+}
+
+// With memory for so many puts, four records are merged and end so, under all orders.
+fn runs_out(rt: &impl Abort, alloc: Global, memory: u32, end: End) -> Result<(), Fail> {
+    for seed in 1..=ORDERS {
+        let (out, ended) = merged(alloc, &["ab.", "DE."], seed, memory)?;
+        is_cut(rt, memory, end, seed, &out, ended);
     }
     Ok(())
 }
@@ -93,28 +147,30 @@ fn memory_runs_out_at_each_record(rt: HostRuntime) -> Result<(), Fail> {
         (3, End::Memory),
         (4, End::Eos),
     ] {
-        for seed in 1..=ORDERS {
-            let mut ports = ports_of(rt.alloc(), &["ab.", "DE."], 1, seed)?;
-            ports.set_memory(memory);
-            let mut merge = Merge::new(2);
-            assert_eq!(rt; run(&mut merge, &mut ports), Some(end), "{memory} {seed}");
-            let out = scripts_at(rt.alloc(), ports)?;
-            assert_eq!(rt; out.len(), memory as usize + 2, "{memory} {seed}: {out}");
-            let last = if end == End::Eos { ". " } else { "! " };
-            assert!(rt; out.ends_with(last), "{memory} {seed}: {out}");
-        }
+        runs_out(&rt, rt.alloc(), memory, end)?;
     }
     Ok(())
 }
 
-// One in alone, and as many as may be; what isn't a record is dropped.
+// One in alone; what isn't a record is dropped.
+fn merges_one(rt: &impl Abort, alloc: Global, seed: u32) -> Result<(), Fail> {
+    let (out, end) = merged(alloc, &["ab|0c."], seed, u32::MAX)?;
+    assert_eq!(rt; (out.as_str(), end), ("abc. ", Some(End::Eos)), "{seed}");
+    Ok(())
+}
+
+// As many ins as may be.
+fn merges_sixty_four(rt: &impl Abort, alloc: Global, seed: u32) -> Result<(), Fail> {
+    let (out, end) = merged(alloc, &["aa."; 64], seed, u32::MAX)?;
+    assert_eq!(rt; (out.len(), end), (130, Some(End::Eos)), "{seed}");
+    Ok(())
+}
+
 #[test]
 fn one_in_and_sixty_four(rt: HostRuntime) -> Result<(), Fail> {
     for seed in 1..=ORDERS {
-        let (out, end) = merged(rt.alloc(), &["ab|0c."], seed)?;
-        assert_eq!(rt; (out.as_str(), end), ("abc. ", Some(End::Eos)), "{seed}");
-        let (out, end) = merged(rt.alloc(), &["aa."; 64], seed)?;
-        assert_eq!(rt; (out.len(), end), (130, Some(End::Eos)), "{seed}");
+        merges_one(&rt, rt.alloc(), seed)?;
+        merges_sixty_four(&rt, rt.alloc(), seed)?;
     }
     Ok(())
 }
