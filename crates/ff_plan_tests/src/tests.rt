@@ -3,7 +3,7 @@ mod nets;
 
 use ff_net::{Path, Route, Sched, Version};
 use ff_node::Class;
-use ff_plan::{Edge, EdgeList, Layout, Party, Queue, UnitKind, UnitRow};
+use ff_plan::{Edge, EdgeList, Party, Queue, UnitKind, UnitRow};
 use nets::{Made, a2a, broken, farm, id, leaf, ofarm, pipe, plan_with, wrap};
 use std::alloc::Global;
 use std::process::Abort;
@@ -35,72 +35,75 @@ fn is_row(unit: &UnitRow, want: &Row) -> bool {
         && is_at(&unit.path, want.3)
 }
 
+fn expect_row(rt: &impl Abort, k: usize, unit: &UnitRow, row: &Row) {
+    assert!(rt; is_row(unit, row), "unit {k}");
+}
+
+fn are_rows(rt: &impl Abort, units: &[UnitRow], want: &[Row]) {
+    assert_eq!(rt; units.len(), want.len());
+    for (k, (unit, row)) in units.iter().zip(want).enumerate() {
+        expect_row(rt, k, unit, row);
+    }
+}
+
 // The plan has these units.
 fn expect_rows(rt: &impl Abort, alloc: Global, net: Made, want: &[Row]) -> Result<(), Fail> {
     let plan = plan_with(alloc, net, 8, Queue::Ring)?;
-    assert_eq!(rt; plan.units().len(), want.len());
-    for (k, (unit, row)) in plan.units().iter().zip(want).enumerate() {
-        assert!(rt; is_row(unit, row), "unit {k}");
-    }
+    are_rows(rt, plan.units(), want);
     Ok(())
 }
 
 #[test]
-fn forms_are_laid_as_their_rules_say(rt: HostRuntime) -> Result<(), Fail> {
+fn a_farm_is_laid_as_its_rule_says(rt: HostRuntime) -> Result<(), Fail> {
     let alloc = rt.alloc();
-    expect_rows(
-        &rt,
-        alloc,
-        pipe(alloc, id(), farm(alloc, 2, Sched::Rr, id())),
-        &[
-            (UnitKind::Stage, &[0], &[2], &[1]),
-            (UnitKind::DealRr, &[2], &[3, 4], &[2]),
-            (UnitKind::Stage, &[3], &[5], &[2, 1]),
-            (UnitKind::Stage, &[4], &[6], &[2, 1]),
-            (UnitKind::Merge, &[5, 6], &[1], &[2]),
-        ],
-    )?;
-    expect_rows(
-        &rt,
-        alloc,
-        wrap(alloc, 2),
-        &[
-            (UnitKind::Master, &[0, 4, 5], &[2, 3, 1], &[]),
-            (UnitKind::Worker, &[2], &[4], &[1]),
-            (UnitKind::Worker, &[3], &[5], &[1]),
-        ],
-    )?;
-    expect_rows(
-        &rt,
-        alloc,
-        ofarm(alloc, 2, Sched::Od, id()),
-        &[
-            (UnitKind::ODealOd, &[0], &[2, 3, 6], &[]),
-            (UnitKind::Stage, &[2], &[4], &[1]),
-            (UnitKind::Stage, &[3], &[5], &[1]),
-            (UnitKind::OMergePick, &[4, 5, 6], &[1], &[]),
-        ],
-    )
+    let rows: [Row; 5] = [
+        (UnitKind::Stage, &[0], &[2], &[1]),
+        (UnitKind::DealRr, &[2], &[3, 4], &[2]),
+        (UnitKind::Stage, &[3], &[5], &[2, 1]),
+        (UnitKind::Stage, &[4], &[6], &[2, 1]),
+        (UnitKind::Merge, &[5, 6], &[1], &[2]),
+    ];
+    let net = pipe(alloc, id(), farm(alloc, 2, Sched::Rr, id()));
+    expect_rows(&rt, alloc, net, &rows)
+}
+
+#[test]
+fn a_wrap_is_laid_as_its_rule_says(rt: HostRuntime) -> Result<(), Fail> {
+    let rows: [Row; 3] = [
+        (UnitKind::Master, &[0, 4, 5], &[2, 3, 1], &[]),
+        (UnitKind::Worker, &[2], &[4], &[1]),
+        (UnitKind::Worker, &[3], &[5], &[1]),
+    ];
+    expect_rows(&rt, rt.alloc(), wrap(rt.alloc(), 2), &rows)
+}
+
+#[test]
+fn an_ordered_farm_is_laid_as_its_rule_says(rt: HostRuntime) -> Result<(), Fail> {
+    let alloc = rt.alloc();
+    let rows: [Row; 4] = [
+        (UnitKind::ODealOd, &[0], &[2, 3, 6], &[]),
+        (UnitKind::Stage, &[2], &[4], &[1]),
+        (UnitKind::Stage, &[3], &[5], &[1]),
+        (UnitKind::OMergePick, &[4, 5, 6], &[1], &[]),
+    ];
+    expect_rows(&rt, alloc, ofarm(alloc, 2, Sched::Od, id()), &rows)
 }
 
 #[test]
 fn sets_are_laid_row_by_row(rt: HostRuntime) -> Result<(), Fail> {
     let alloc = rt.alloc();
-    expect_rows(
-        &rt,
-        alloc,
-        a2a(alloc, 1, Route::By(1), 2, leaf(Class::Keyed(1))),
-        &[
-            (UnitKind::DealRr, &[0], &[2], &[]),
-            (UnitKind::Stage, &[2], &[3], &[1]),
-            (UnitKind::DealBy(1), &[3], &[4, 5], &[]),
-            (UnitKind::Merge, &[4], &[6], &[]),
-            (UnitKind::Merge, &[5], &[7], &[]),
-            (UnitKind::Stage, &[6], &[8], &[2]),
-            (UnitKind::Stage, &[7], &[9], &[2]),
-            (UnitKind::Merge, &[8, 9], &[1], &[]),
-        ],
-    )
+    let rows: [Row; 8] = [
+        (UnitKind::DealRr, &[0], &[2], &[]),
+        (UnitKind::Stage, &[2], &[3], &[1]),
+        (UnitKind::DealBy(1), &[3], &[4, 5], &[]),
+        (UnitKind::Merge, &[4], &[6], &[]),
+        (UnitKind::Merge, &[5], &[7], &[]),
+        (UnitKind::Stage, &[6], &[8], &[2]),
+        (UnitKind::Stage, &[7], &[9], &[2]),
+        (UnitKind::Merge, &[8, 9], &[1], &[]),
+    ];
+    let net = a2a(alloc, 1, Route::By(1), 2, leaf(Class::Keyed(1)));
+    expect_rows(&rt, alloc, net, &rows)
 }
 
 fn is_ring_of_one(edge: &Edge) -> bool {
@@ -111,6 +114,18 @@ fn is_chain_of_seven(edge: &Edge) -> bool {
     edge.cap == 7 && edge.queue == Queue::Chain
 }
 
+// Of these edges those from `first` to before `past` are rings of one slot.
+fn are_rings(rt: &impl Abort, edges: &[Edge], first: usize, past: usize) {
+    for (k, edge) in edges.iter().enumerate() {
+        let is_laid = if first <= k && k < past {
+            is_ring_of_one(edge)
+        } else {
+            is_chain_of_seven(edge)
+        };
+        assert!(rt; is_laid, "edge {k}");
+    }
+}
+
 // Of the edges that are laid for chains of seven slots, those from `first` to before `past` are rings of one slot.
 fn expect_rings(
     rt: &impl Abort,
@@ -118,16 +133,10 @@ fn expect_rings(
     net: Made,
     first: usize,
     past: usize,
-) -> Result<Layout, Fail> {
+) -> Result<(), Fail> {
     let plan = plan_with(alloc, net, 7, Queue::Chain)?;
-    for (k, edge) in plan.edges().iter().enumerate() {
-        if first <= k && k < past {
-            assert!(rt; is_ring_of_one(edge), "edge {k}");
-        } else {
-            assert!(rt; is_chain_of_seven(edge), "edge {k}");
-        }
-    }
-    Ok(plan)
+    are_rings(rt, plan.edges(), first, past);
+    Ok(())
 }
 
 #[test]
@@ -137,7 +146,18 @@ fn edges_on_demand_are_rings_of_one_slot(rt: HostRuntime) -> Result<(), Fail> {
     expect_rings(&rt, alloc, farm(alloc, 2, Sched::Od, id()), 2, 4)?;
     expect_rings(&rt, alloc, a2a(alloc, 2, Route::Od, 2, id()), 6, 10)?;
     expect_rings(&rt, alloc, wrap(alloc, 2), 0, 0)?;
-    let plan = expect_rings(&rt, alloc, ofarm(alloc, 2, Sched::Od, id()), 2, 4)?;
+    expect_rings(&rt, alloc, ofarm(alloc, 2, Sched::Od, id()), 2, 4)
+}
+
+fn are_between(rt: &impl Abort, edges: &[Edge], ends: &[(Party, Party)]) {
+    assert_eq!(rt; edges.len(), ends.len());
+    for (edge, (writer, reader)) in edges.iter().zip(ends) {
+        assert_eq!(rt; (edge.writer, edge.reader), (*writer, *reader));
+    }
+}
+
+#[test]
+fn edges_lie_between_their_units(rt: HostRuntime) -> Result<(), Fail> {
     let ends = [
         (Party::Caller, Party::Unit(0)),
         (Party::Unit(3), Party::Caller),
@@ -147,11 +167,9 @@ fn edges_on_demand_are_rings_of_one_slot(rt: HostRuntime) -> Result<(), Fail> {
         (Party::Unit(2), Party::Unit(3)),
         (Party::Unit(0), Party::Unit(3)),
     ];
-    assert_eq!(&rt; plan.edges().len(), ends.len());
-    for (edge, (writer, reader)) in plan.edges().iter().zip(&ends) {
-        assert_eq!(&rt; edge.writer, *writer);
-        assert_eq!(&rt; edge.reader, *reader);
-    }
+    let net = ofarm(rt.alloc(), 2, Sched::Od, id());
+    let plan = plan_with(rt.alloc(), net, 7, Queue::Chain)?;
+    are_between(&rt, plan.edges(), &ends);
     Ok(())
 }
 
@@ -163,17 +181,33 @@ fn sets(alloc: Global) -> Made {
     a2a(alloc, 39, Route::Rr, 48, id())
 }
 
+// The plan has so many units and edges.
+fn expect_size(
+    rt: &impl Abort,
+    alloc: Global,
+    net: Made,
+    units: usize,
+    edges: usize,
+) -> Result<(), Fail> {
+    let plan = plan_with(alloc, net, 1, Queue::Ring)?;
+    let size = (plan.units().len(), plan.edges().len());
+    assert_eq!(rt; size, (units, edges));
+    Ok(())
+}
+
+// The network breaks this rule; 0 where it keeps them all.
+fn expect_broken(rt: &impl Abort, net: Made, version: Version, rule: u8) -> Result<(), Fail> {
+    let found = broken(net, version)?;
+    assert_eq!(rt; found, rule);
+    Ok(())
+}
+
 #[test]
 fn the_largest_plans(rt: HostRuntime) -> Result<(), Fail> {
     let alloc = rt.alloc();
-    let plan = plan_with(alloc, pairs(alloc), 1, Queue::Ring)?;
-    assert_eq!(&rt; plan.units().len(), 128);
-    assert_eq!(&rt; plan.edges().len(), 191);
-    assert_eq!(&rt; broken(pairs(alloc), Version::One)?, 0);
-    assert_eq!(&rt; broken(pipe(alloc, pairs(alloc), id()), Version::One)?, 4);
-    let plan = plan_with(alloc, sets(alloc), 1, Queue::Ring)?;
-    assert_eq!(&rt; plan.units().len(), 176);
-    assert_eq!(&rt; plan.edges().len(), 2048);
-    assert_eq!(&rt; broken(pipe(alloc, sets(alloc), id()), Version::Two)?, 5);
-    Ok(())
+    expect_size(&rt, alloc, pairs(alloc), 128, 191)?;
+    expect_broken(&rt, pairs(alloc), Version::One, 0)?;
+    expect_broken(&rt, pipe(alloc, pairs(alloc), id()), Version::One, 4)?;
+    expect_size(&rt, alloc, sets(alloc), 176, 2048)?;
+    expect_broken(&rt, pipe(alloc, sets(alloc), id()), Version::Two, 5)
 }
