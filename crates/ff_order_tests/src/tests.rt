@@ -1,13 +1,15 @@
 // What no clause says: that memory is there, and that the definitions mean these streams. The ports find nothing, and no room, at
 // random, so that each case is tried under many orders of what comes and goes.
-ghost use Rattle.std.specs.Prelude.{◌≡◌, [], ◌∷◌, length, replicate};
+ghost use Rattle.std.specs.Prelude.{◌≡◌, [], ◌∷◌, length, map, replicate};
+ghost use Rattle.ff_port.specs.Queues.{put_of};
+ghost use Rattle.ff_unit.specs.Deals.{deal_does};
 ghost use Rattle.ff_unit.specs.Units.{Ran};
 ghost use Rattle.ff_order.specs.OMerges.{omerge_does};
 
 use ff_order::{ODeal, OMerge};
 use ff_port::{End, Ports, Step};
 use ff_rec::Record;
-use ff_test_ports::{ports_of, scripts_at};
+use ff_test_ports::{Fickle, QueuePorts, ports_of, scripts_at};
 use ff_unit::Unit;
 use std::alloc::Global;
 use std::process::Abort;
@@ -28,6 +30,29 @@ fn run<U: Unit, P: Ports<Record>>(unit: &mut U, ports: &mut P) -> Option<End>
     None
 }
 
+// What such ins make of an end.
+fn end_of(wanted: &str) -> End {
+    if wanted.ends_with("! ") {
+        End::Abort
+    } else {
+        End::Eos
+    }
+}
+
+// What a merge of these ins puts, and how it ends.
+fn merged(
+    alloc: Global,
+    mut merge: OMerge,
+    scripts: &[&str],
+    seed: u32,
+) -> Result<(String, Option<End>), Fail>
+    requires { Ran omerge_does merge (replicate (length scripts.now) []) ([] ∷ []) }
+{
+    let mut ports = ports_of(alloc, scripts, 1, seed)?;
+    let ended = run(&mut merge, &mut ports);
+    Ok((scripts_at(alloc, ports)?, ended))
+}
+
 // An ordered merge of these ins puts this and ends so.
 fn merges(
     rt: &impl Abort,
@@ -39,20 +64,22 @@ fn merges(
 ) -> Result<(), Fail>
     requires { Ran omerge_does merge (replicate (length scripts.now) []) ([] ∷ []) }
 {
-    let end = if wanted.ends_with("! ") {
-        End::Abort
-    } else {
-        End::Eos
-    };
-    let mut merge = merge;
-    let mut ports = ports_of(alloc, scripts, 1, seed)?;
-    let ended = run(&mut merge, &mut ports);
-    let out = scripts_at(alloc, ports)?;
-    assert_eq!(rt;
-        (out.as_str(), ended),
-        (wanted, Some(end)),
-        "{scripts:?} {seed}"
-    );
+    let end = Some(end_of(wanted));
+    let (out, ended) = merged(alloc, merge, scripts, seed)?;
+    assert_eq!(rt; (out.as_str(), ended), (wanted, end), "{scripts:?} {seed}");
+    Ok(())
+}
+
+// Under all orders two ins are merged so in turn.
+fn merges_in_turn(
+    rt: &impl Abort,
+    alloc: Global,
+    scripts: [&str; 2],
+    wanted: &str,
+) -> Result<(), Fail> {
+    for seed in 1..=ORDERS {
+        merges(rt, alloc, OMerge::in_turn(2), &scripts, seed, wanted)?;
+    }
     Ok(())
 }
 
@@ -68,18 +95,25 @@ fn groups_come_in_turn(rt: HostRuntime) -> Result<(), Fail> {
         (["a|2b|.", "c|d|."], "acbd. "),
         (["ab.", "cd|."], "ab. "),
     ];
+    for (scripts, wanted) in cases {
+        merges_in_turn(&rt, rt.alloc(), scripts, wanted)?;
+    }
     for seed in 1..=ORDERS {
-        for (scripts, wanted) in cases {
-            merges(&rt, rt.alloc(), OMerge::in_turn(2), &scripts, seed, wanted)?;
-        }
-        merges(
-            &rt,
-            rt.alloc(),
-            OMerge::in_turn(1),
-            &["ab||c|."],
-            seed,
-            "abc. ",
-        )?;
+        let one = ["ab||c|."];
+        merges(&rt, rt.alloc(), OMerge::in_turn(1), &one, seed, "abc. ")?;
+    }
+    Ok(())
+}
+
+// Under all orders two ins are merged so by the picks of a third.
+fn merges_by_pick(
+    rt: &impl Abort,
+    alloc: Global,
+    scripts: [&str; 3],
+    wanted: &str,
+) -> Result<(), Fail> {
+    for seed in 1..=ORDERS {
+        merges(rt, alloc, OMerge::by_pick(2), &scripts, seed, wanted)?;
     }
     Ok(())
 }
@@ -96,18 +130,12 @@ fn groups_come_as_they_are_picked(rt: HostRuntime) -> Result<(), Fail> {
         (["a.", "b|.", "01."], "a. "),
         (["a|.", "b|.", "."], ". "),
     ];
+    for (scripts, wanted) in cases {
+        merges_by_pick(&rt, rt.alloc(), scripts, wanted)?;
+    }
     for seed in 1..=ORDERS {
-        for (scripts, wanted) in cases {
-            merges(&rt, rt.alloc(), OMerge::by_pick(2), &scripts, seed, wanted)?;
-        }
-        merges(
-            &rt,
-            rt.alloc(),
-            OMerge::by_pick(1),
-            &["ab||c|.", "000."],
-            seed,
-            "abc. ",
-        )?;
+        let one = ["ab||c|.", "000."];
+        merges(&rt, rt.alloc(), OMerge::by_pick(1), &one, seed, "abc. ")?;
     }
     Ok(())
 }
@@ -119,38 +147,68 @@ fn sixty_four_ins(rt: HostRuntime) -> Result<(), Fail> {
     scripts[0] = "a|c|.";
     scripts[63] = "b|.";
     for seed in 1..=20 {
-        merges(
-            &rt,
-            rt.alloc(),
-            OMerge::in_turn(64),
-            &scripts,
-            seed,
-            "abc. ",
-        )?;
+        let merge = OMerge::in_turn(64);
+        merges(&rt, rt.alloc(), merge, &scripts, seed, "abc. ")?;
     }
     Ok(())
 }
 
-// An ordered deal, and one that is told to abort.
+// An ordered deal to two outs: to two places in turn, or to one on demand.
+fn deal_of(on_demand: bool) -> ODeal
+    ensures { Ran deal_does result ([] ∷ []) (replicate 2 []) }
+{
+    if on_demand {
+        ODeal::on_demand(1)
+    } else {
+        ODeal::strict(2)
+    }
+}
+
+// How such a deal between these ports ends.
+fn ended(on_demand: bool, ports: &mut Fickle<QueuePorts>) -> Option<End>
+    requires gots { map (λ q. q.got) ports.old.ports.ins.items ≡ [] ∷ [] }
+    requires puts { map (λ q. put_of q) ports.old.ports.outs.items ≡ replicate 2 [] }
+{
+    let mut deal = deal_of(on_demand);
+    run(&mut deal, ports)
+}
+
+// What such a deal of this in puts, and how it ends.
+fn dealt(
+    alloc: Global,
+    on_demand: bool,
+    script: &str,
+    seed: u32,
+) -> Result<(String, Option<End>), Fail> {
+    let mut ports = ports_of(alloc, &[script], 2, seed)?;
+    let end = ended(on_demand, &mut ports);
+    Ok((scripts_at(alloc, ports)?, end))
+}
+
+// Such a deal of this in puts this, and ends by Eos.
+fn deals(
+    rt: &impl Abort,
+    alloc: Global,
+    on_demand: bool,
+    script: &str,
+    seed: u32,
+    wanted: &str,
+) -> Result<(), Fail> {
+    let (outs, ended) = dealt(alloc, on_demand, script, seed)?;
+    assert_eq!(rt;
+        (outs.as_str(), ended),
+        (wanted, Some(End::Eos)),
+        "{script} {seed}"
+    );
+    Ok(())
+}
+
+// An ordered deal in turn, and one on demand.
 #[test]
 fn records_are_dealt_as_groups(rt: HostRuntime) -> Result<(), Fail> {
     for seed in 1..=ORDERS {
-        let mut ports = ports_of(rt.alloc(), &["abc."], 2, seed)?;
-        let mut deal = ODeal::strict(2);
-        assert_eq!(rt; run(&mut deal, &mut ports), Some(End::Eos));
-        assert_eq!(rt;
-            scripts_at(rt.alloc(), ports)?.as_str(),
-            "a|c|. b|. ",
-            "{seed}"
-        );
-        let mut ports = ports_of(rt.alloc(), &["ab."], 2, seed)?;
-        let mut deal = ODeal::on_demand(1);
-        assert_eq!(rt; run(&mut deal, &mut ports), Some(End::Eos));
-        assert_eq!(rt;
-            scripts_at(rt.alloc(), ports)?.as_str(),
-            "a|b|. 00. ",
-            "{seed}"
-        );
+        deals(&rt, rt.alloc(), false, "abc.", seed, "a|c|. b|. ")?;
+        deals(&rt, rt.alloc(), true, "ab.", seed, "a|b|. 00. ")?;
     }
     Ok(())
 }
