@@ -83,6 +83,14 @@ fn merges_in_turn(
     Ok(())
 }
 
+// Under all orders one in is merged so.
+fn merges_one(rt: &impl Abort, alloc: Global, script: &str, wanted: &str) -> Result<(), Fail> {
+    for seed in 1..=ORDERS {
+        merges(rt, alloc, OMerge::in_turn(1), &[script], seed, wanted)?;
+    }
+    Ok(())
+}
+
 // Groups that are empty, long and cut off; ins that end early, in a group, and by Abort. The rest of every in is read.
 #[test]
 fn groups_come_in_turn(rt: HostRuntime) -> Result<(), Fail> {
@@ -98,11 +106,7 @@ fn groups_come_in_turn(rt: HostRuntime) -> Result<(), Fail> {
     for (scripts, wanted) in cases {
         merges_in_turn(&rt, rt.alloc(), scripts, wanted)?;
     }
-    for seed in 1..=ORDERS {
-        let one = ["ab||c|."];
-        merges(&rt, rt.alloc(), OMerge::in_turn(1), &one, seed, "abc. ")?;
-    }
-    Ok(())
+    merges_one(&rt, rt.alloc(), "ab||c|.", "abc. ")
 }
 
 // Under all orders two ins are merged so by the picks of a third.
@@ -114,6 +118,14 @@ fn merges_by_pick(
 ) -> Result<(), Fail> {
     for seed in 1..=ORDERS {
         merges(rt, alloc, OMerge::by_pick(2), &scripts, seed, wanted)?;
+    }
+    Ok(())
+}
+
+// Under all orders one in is merged so by the picks of a second.
+fn picks_one(rt: &impl Abort, alloc: Global, scripts: [&str; 2], wanted: &str) -> Result<(), Fail> {
+    for seed in 1..=ORDERS {
+        merges(rt, alloc, OMerge::by_pick(1), &scripts, seed, wanted)?;
     }
     Ok(())
 }
@@ -133,11 +145,7 @@ fn groups_come_as_they_are_picked(rt: HostRuntime) -> Result<(), Fail> {
     for (scripts, wanted) in cases {
         merges_by_pick(&rt, rt.alloc(), scripts, wanted)?;
     }
-    for seed in 1..=ORDERS {
-        let one = ["ab||c|.", "000."];
-        merges(&rt, rt.alloc(), OMerge::by_pick(1), &one, seed, "abc. ")?;
-    }
-    Ok(())
+    picks_one(&rt, rt.alloc(), ["ab||c|.", "000."], "abc. ")
 }
 
 // As many ins as may be, of which two hold records.
