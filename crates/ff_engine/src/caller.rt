@@ -75,6 +75,7 @@ impl Caller {
     }
 
     /// Whether the stream was cut off: an Abort came.
+    #[inline(always)]
     pub(crate) fn is_cut(&self) -> bool {
         self.end == Some(End::Abort)
     }

@@ -31,6 +31,7 @@ impl<N: Node, R: Wait + Drop> Intake<N> for Line<N, R> {
 
     ghost halted = { λ j l halt xs front. HasStopped N.does j (caller_of l.caller) l.crew halt xs front };
 
+    #[inline(always)]
     fn take<O: Sink>(&mut self, r: Record, sink: &mut O) -> Result<(), Halt> {
         if self.caller.is_cut() {
             return Err(Halt::NoMemory);

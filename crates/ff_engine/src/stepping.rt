@@ -28,7 +28,10 @@ pub(crate) fn run_unit<U: Unit, P: Ports<Record>, R: Wait>(
     for _ in rt.forever() {
         match unit.step(ports) {
             Step::Moved => {
-                pause.reset();
+                // Only the first move behind a pause has anything to reset.
+                if !moved {
+                    pause.reset();
+                }
                 moved = true;
             }
             Step::Waits => {

@@ -66,6 +66,7 @@ impl<N: Node> Node for Comb<N> {
         self.ended = [false; 64];
     }
 
+    #[inline(always)]
     fn svc(&mut self, r: Record, out: &mut Sends) -> Result<Next, NoMemory> {
         pass(&mut self.nodes, &mut self.ended, r, out)?;
         Ok(if self.ended[0] { Next::Eos } else { Next::GoOn })

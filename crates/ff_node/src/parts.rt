@@ -25,7 +25,7 @@ fn feed<N: Node>(node: &mut N, ended: &mut bool, out: &mut Sends) -> Result<(), 
 }
 
 // A record to a part; one that has ended drops it.
-#[inline]
+#[inline(always)]
 fn give<N: Node>(node: &mut N, ended: &mut bool, r: Record, out: &mut Sends) -> Result<(), NoMemory>
     ensures kind { N.does.opening node.new ≡ N.does.opening node.old }
     ensures state { OnOk result
@@ -56,6 +56,7 @@ fn end<N: Node>(node: &mut N, ended: &mut bool, out: &mut Sends) -> Result<(), N
 
 /// A record through all parts: what comes out behind the last is added to `out`. What was sent before stands aside
 /// meanwhile, if there is any.
+#[inline(always)]
 pub(crate) fn pass<N: Node>(
     nodes: &mut [N],
     ended: &mut [bool],
@@ -81,6 +82,7 @@ pub(crate) fn pass<N: Node>(
 }
 
 // A record through all parts, where nothing was sent before it. The first part takes it at once.
+#[inline(always)]
 fn pass_one<N: Node>(
     nodes: &mut [N],
     ended: &mut [bool],

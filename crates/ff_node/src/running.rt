@@ -8,6 +8,7 @@ use ff_rec::{NoMemory, Record};
 
 /// Hands a record to a node that runs, and where it ends with it makes its last calls. After `NoMemory` the caller gives
 /// the node up.
+#[inline(always)]
 pub fn node_step<N: Node>(node: &mut N, r: Record, out: &mut Sends) -> Result<Next, NoMemory>
     ensures kind { N.does.opening node.new ≡ N.does.opening node.old }
     ensures fed { IfOk result (λ next. Feeds N.does node.old out.old r next node.new out.new) }

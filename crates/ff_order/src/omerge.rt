@@ -9,7 +9,7 @@ mod takes;
 use crate::Order;
 use ff_port::{End, Ports, Put, Step};
 use ff_rec::{Msg, Record};
-use ff_unit::{Flags, Mode, Unit};
+use ff_unit::{Flags, Mode, Unit, take_out};
 use std::marker::Model;
 
 /// A unit that takes a group from the in that is due, up to its Mark, and puts its records at its one out. It takes no memory.
@@ -98,7 +98,7 @@ impl Unit for OMerge {
     ghost does = { omerge_does };
 
     fn step_once<P: Ports<Record>>(&mut self, ports: &mut P) -> Step {
-        match self.held.take() {
+        match take_out(&mut self.held) {
             None => self.go_on(ports),
             Some(m) => match ports.try_put(0, m) {
                 Put::Done => Step::Moved,

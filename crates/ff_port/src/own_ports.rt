@@ -94,6 +94,7 @@ impl<I: Inbox<T>, O: Outbox<T>, T> Ports<T> for OwnPorts<I, O, T> {
         Some(m)
     }
 
+    #[inline(always)]
     fn try_put(&mut self, k: usize, m: Msg<T>) -> Put<T>
         requires within { k < length (map O.put self.old.outs.items) }
         requires inner { IsOpen (at (map O.put self.old.outs.items) k) }
@@ -115,6 +116,7 @@ impl<I: Inbox<T>, O: Outbox<T>, T> Ports<T> for OwnPorts<I, O, T> {
 }
 
 // The next message at in `k`.
+#[inline(always)]
 fn take_at<I: Inbox<T>, T>(ins: &mut Vec<I>, k: usize) -> Option<Msg<T>>
     requires { k < length ins.old.items }
     ensures link { map I.link ins.new.items ≡ map I.link ins.old.items }
@@ -128,6 +130,7 @@ fn take_at<I: Inbox<T>, T>(ins: &mut Vec<I>, k: usize) -> Option<Msg<T>>
 }
 
 // Puts a message at out `k`, or hands it back.
+#[inline(always)]
 fn put_at<O: Outbox<T>, T>(outs: &mut Vec<O>, k: usize, m: Msg<T>) -> Put<T>
     requires within { k < length outs.old.items }
     requires inner { IsOpen (at (map O.put outs.old.items) k) }

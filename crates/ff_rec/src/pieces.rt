@@ -9,6 +9,7 @@ use memchr::memchr;
 const NEAR: usize = 12;
 
 /// The first piece, and what stands behind the separator that ends it, if there is one.
+#[inline(always)]
 pub fn split(bytes: &[u8], separator: u8) -> (&[u8], Option<&[u8]>)
     ensures pieces { cut separator bytes.now ≡ result.0.now ∷ rest_cut separator result.1 }
     ensures whole { bytes.now ≡ whole_of separator result.0.now result.1 }

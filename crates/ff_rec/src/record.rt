@@ -55,6 +55,7 @@ impl Record {
     }
 
     /// A line, without its newline, cut at its tabs.
+    #[inline(always)]
     pub fn of_line(alloc: Global, line: &[u8]) -> Result<Record, CutFault>
         requires { Lacks 10 line.now }
         ensures ok { IfOk result (λ r. r ≡ cut 9 line.now) }
@@ -104,6 +105,7 @@ impl Record {
     }
 
     /// The fields joined by single tabs.
+    #[inline(always)]
     pub fn joined(&self) -> &[u8]
         ensures { result.now ≡ joined self.now }
     {
@@ -161,6 +163,7 @@ impl Kept for Record {
 }
 
 /// Appends the text of a record: its fields joined by tabs, and a newline. After a refusal `into` is unchanged.
+#[inline(always)]
 pub fn print_record(r: &Record, into: &mut Vec<u8>) -> Result<(), NoMemory>
     ensures ok { OnOk result (into.new.items ≡ into.old.items ++ line_of r.now) }
     ensures err { OnErr result (into.new.items ≡ into.old.items) }

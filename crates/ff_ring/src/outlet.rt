@@ -54,6 +54,7 @@ impl<T> Outlet<T> {
 
     /// Whether a bundle is to be handed over before it is full: in a ring of one slot, and by an eager writer where the
     /// reader is seen to have taken all.
+    #[inline(always)]
     pub(crate) fn is_due(&mut self, eager: bool) -> bool
         ensures looked { Looks self.old self.new }
         ensures value { IsTrue result ↔ IsDue eager self.new }
@@ -62,6 +63,7 @@ impl<T> Outlet<T> {
     }
 
     /// Whether the ring has one slot.
+    #[inline(always)]
     pub(crate) fn is_single(&self) -> bool
         ensures { IsTrue result ↔ (slots_of self.now ≡ 1) }
     {

@@ -88,6 +88,7 @@ impl<T> RingIn<T> {
     }
 
     // Opens the next bundle where the one that is open is empty. Where there is none, the writer is told of all that came back.
+    #[inline(always)]
     fn look(&mut self)
         ensures link { read_ring self.new ≡ read_ring self.old }
         ensures got { got_of self.new ≡ got_of self.old }
@@ -120,6 +121,7 @@ impl<T> Inbox<T> for RingIn<T> {
 
     ghost link = { λ inn. read_ring inn };
 
+    #[inline(always)]
     fn try_take(&mut self) -> Option<Msg<T>>
         ensures link { read_ring self.new ≡ read_ring self.old }
         ensures takes { Takes (got_of self.old) (known_of self.old) result (got_of self.new) (known_of self.new) }

@@ -57,6 +57,7 @@ impl<T> RingOut<T> {
     }
 
     // Room for one message more: a full bundle is handed over. It answers whether there is room.
+    #[inline(always)]
     fn make_room(&mut self) -> bool
         ensures link { written_ring self.new ≡ written_ring self.old }
         ensures put { put_of self.new ≡ put_of self.old }
@@ -74,6 +75,7 @@ impl<T> RingOut<T> {
     }
 
     // Puts a message, and hands the bundle over where that is due.
+    #[inline(always)]
     fn add(&mut self, m: Msg<T>)
         requires { HasPlace self.old }
         ensures link { written_ring self.new ≡ written_ring self.old }

@@ -38,6 +38,7 @@ impl Text {
     }
 
     /// Adds the line of a record. After a refusal nothing changed.
+    #[inline(always)]
     pub fn print(&mut self, r: &Record) -> Result<(), NoMemory>
         ensures ok { OnOk result (self.new ≡ self.old ++ line_of r.now) }
         ensures err { OnErr result (self.new ≡ self.old) }
@@ -67,6 +68,7 @@ impl Text {
     }
 
     /// Writes all of it where so much is held that it is time to.
+    #[inline(always)]
     pub fn write_full<O: Sink>(&mut self, sink: &mut O) -> Result<(), Failed>
         ensures all { OnOk result (Writes self.old self.new (O.taken sink.old) (O.taken sink.new)) }
         ensures some { OnErr result (WritesSome self.old (O.taken sink.old) (O.taken sink.new)) }

@@ -6,7 +6,7 @@ mod opened;
 mod steps;
 mod takes;
 
-use crate::{Dealing, Unit};
+use crate::{Dealing, Unit, take_out};
 pub use behind::Last;
 use ff_port::{End, Ports, Step};
 use ff_rec::Record;
@@ -58,7 +58,7 @@ impl Unit for Deal {
     ghost does = { deal_does };
 
     fn step_once<P: Ports<Record>>(&mut self, ports: &mut P) -> Step {
-        match self.free.take() {
+        match take_out(&mut self.free) {
             Some(r) => self.put_free(r, ports),
             None => match self.held.put_first(ports) {
                 HeldPut::Nothing => self.go_on(ports),

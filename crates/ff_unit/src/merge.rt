@@ -6,7 +6,7 @@ ghost use Rattle.ff_unit.specs.Units.{Ran};
 
 mod steps;
 
-use crate::{Flags, Unit};
+use crate::{Flags, Unit, take_out};
 use ff_port::{End, Ports, Put, Step};
 use ff_rec::{Msg, Record};
 use std::marker::Model;
@@ -76,7 +76,7 @@ impl Unit for Merge {
     ghost does = { merge_does };
 
     fn step_once<P: Ports<Record>>(&mut self, ports: &mut P) -> Step {
-        match self.held.take() {
+        match take_out(&mut self.held) {
             None => self.go_on(ports),
             Some(m) => match ports.try_put(0, m) {
                 Put::Done => Step::Moved,

@@ -43,6 +43,7 @@ impl<N: Node> Unit for Stage<N> {
 
     ghost does = { stage_does N.does };
 
+    #[inline(always)]
     fn step_once<P: Ports<Record>>(&mut self, ports: &mut P) -> Step {
         self.runner.step(None, ports)
     }

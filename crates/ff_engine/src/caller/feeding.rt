@@ -34,6 +34,7 @@ impl Caller {
     }
 
     // Puts a message on the first ring. Where there is no room, it comes back.
+    #[inline(always)]
     fn try_feed(&mut self, m: Msg<Record>) -> Option<Msg<Record>>
         requires { IsOpen (caller_of self.old).put }
         ensures { Feeds (caller_of self.old) m result (caller_of self.new) }

@@ -114,6 +114,7 @@ impl Caller {
     }
 
     // Takes what has come and prints it. It answers whether something came.
+    #[inline(always)]
     fn take_ready<O: Sink>(&mut self, sink: &mut O) -> Result<bool, Halt>
         ensures put { (caller_of self.new).put ≡ (caller_of self.old).put }
         ensures goes { GoesOn (caller_of self.old) result (caller_of self.new)
@@ -128,6 +129,7 @@ impl Caller {
     }
 
     // Takes a message and prints what it carries. It answers whether one came.
+    #[inline(always)]
     fn receive<O: Sink>(&mut self, sink: &mut O) -> Result<bool, Halt>
         ensures put { (caller_of self.new).put ≡ (caller_of self.old).put }
         ensures goes { GoesOn (caller_of self.old) result (caller_of self.new)
@@ -144,6 +146,7 @@ impl Caller {
     }
 
     // Writes what came where it is much, unless it is held.
+    #[inline(always)]
     fn write_much<O: Sink>(&mut self, sink: &mut O) -> Result<(), Halt>
         ensures put { (caller_of self.new).put ≡ (caller_of self.old).put }
         ensures goes { GoesOn (caller_of self.old) result (caller_of self.new)

@@ -30,6 +30,7 @@ impl Node for Op {
         self.family.svc_init();
     }
 
+    #[inline(always)]
     fn svc(&mut self, r: Record, out: &mut Sends) -> Result<Next, NoMemory> {
         self.family.svc(r, out)
     }

@@ -46,6 +46,7 @@ fn limit_of_long(limit: usize, number: u64, line: &[u8]) -> LineFault
 }
 
 /// Appends the record of a line. After a refusal `into` is unchanged.
+#[inline(always)]
 pub fn push_line(alloc: Global, line: &[u8], into: &mut Vec<Record>) -> Result<(), CutFault>
     requires { Lacks 10 line.now }
     ensures ok { OnOk result (into.new.items ≡ into.old.items ++ cut 9 line.now ∷ []) }
@@ -61,6 +62,7 @@ pub fn push_line(alloc: Global, line: &[u8], into: &mut Vec<Record>) -> Result<(
 }
 
 /// Appends the record of a whole line, if it passes no limit. After a refusal `into` is unchanged.
+#[inline(always)]
 pub fn push_whole(
     alloc: Global,
     limit: usize,

@@ -97,6 +97,7 @@ pub fn keep_part(limits: Limits, progress: &mut Progress, part: &[u8]) -> Result
 }
 
 // Appends the record of a line whose last part stands before a newline. After a refusal `into` is unchanged.
+#[inline(always)]
 fn end_line(
     limits: Limits,
     progress: &mut Progress,

@@ -1,9 +1,10 @@
 // What a deal holds behind the message that comes first.
-ghost use Rattle.std.specs.Prelude.{◌≡◌, ◌↔◌, [], IsTrue};
+ghost use Rattle.std.specs.Prelude.{◌≡◌, ◌↔◌, [], ◌∷◌, IsTrue};
 ghost use Rattle.std.specs.Option.{option_to_list};
 ghost use Rattle.ff_unit.specs.DealParts.{last_msg, TakesPair};
 ghost use Rattle.ff_unit.specs.Deals.{on_outs};
 
+use crate::take_out;
 use ff_rec::{Msg, Record};
 use std::marker::Model;
 
@@ -76,6 +77,14 @@ impl Behind {
         }
     }
 
+    /// Holds one message, where there is none.
+    pub fn hold(&mut self, first: Pair)
+        requires { self.old ≡ [] }
+        ensures { self.new ≡ first ∷ [] }
+    {
+        self.first = Some(first);
+    }
+
     /// Whether there is none.
     pub fn is_empty(&self) -> bool
         ensures { IsTrue result ↔ self.now ≡ [] }
@@ -87,7 +96,7 @@ impl Behind {
     pub fn take(&mut self) -> Option<Pair>
         ensures { TakesPair self.old result self.new }
     {
-        if let Some(pair) = self.first.take() {
+        if let Some(pair) = take_out(&mut self.first) {
             return Some(pair);
         }
         if self.outs <= self.next {

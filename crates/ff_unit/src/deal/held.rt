@@ -5,6 +5,7 @@ ghost use Rattle.ff_unit.specs.DealParts.{last_msg, TakesPair, PutsHeld};
 ghost use Rattle.ff_unit.specs.Deals.{AreOpenOuts, on_outs};
 
 use super::behind::{Behind, Last, Pair};
+use crate::take_out;
 use ff_port::{Ports, Put};
 use ff_rec::Record;
 use std::marker::Model;
@@ -84,6 +85,23 @@ impl Held {
         }
     }
 
+    /// Holds one message, where nothing is held. Quicker than to make all of it anew.
+    pub fn hold(&mut self, first: Pair)
+        requires { self.old ≡ [] }
+        ensures { self.new ≡ first ∷ [] }
+    {
+        self.first = Some(first);
+    }
+
+    /// Holds two messages, where nothing is held.
+    pub fn hold_two(&mut self, first: Pair, second: Pair)
+        requires { self.old ≡ [] }
+        ensures { self.new ≡ first ∷ second ∷ [] }
+    {
+        self.first = Some(first);
+        self.behind.hold(second);
+    }
+
     /// Puts the first message, if one is held.
     pub fn put_first<P: Ports<Record>>(&mut self, ports: &mut P) -> HeldPut
         requires { AreOpenOuts (P.puts ports.old) self.old }
@@ -112,7 +130,7 @@ fn take_first(first: &mut Option<Pair>, behind: &mut Behind) -> Option<Pair>
     ensures first { first.new ≡ None }
     ensures taken { TakesPair (option_to_list first.old ++ behind.old) result behind.new }
 {
-    match first.take() {
+    match take_out(first) {
         Some(pair) => Some(pair),
         None => behind.take(),
     }

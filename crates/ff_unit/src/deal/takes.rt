@@ -16,7 +16,8 @@ use ff_rec::{Msg, Record};
 impl Deal {
     /// Takes a message, while nothing is held.
     pub(super) fn receive(&mut self, m: Msg<Record>)
-        requires { self.old.turn < self.old.places }
+        requires held { self.old.held ≡ [] }
+        requires turn { self.old.turn < self.old.places }
         ensures { self.new ≡ deal_takes self.old m }
     {
         match m {
@@ -30,7 +31,8 @@ impl Deal {
 
     // For want of memory records are dropped.
     fn deal(&mut self, r: Record)
-        requires { self.old.turn < self.old.places }
+        requires held { self.old.held ≡ [] }
+        requires turn { self.old.turn < self.old.places }
         ensures { self.new ≡ deals self.old.end self.old r }
     {
         match self.end {
@@ -41,21 +43,23 @@ impl Deal {
 
     // The record goes to its place, or waits for one with room.
     fn deal_one(&mut self, r: Record)
-        requires { self.old.turn < self.old.places }
+        requires held { self.old.held ≡ [] }
+        requires turn { self.old.turn < self.old.places }
         ensures { self.new ≡ deals_one self.old.way self.old r }
     {
         match self.way {
             Dealing::InTurn => {
-                self.held = Held::one((self.turn, Msg::Item(r)));
+                self.held.hold((self.turn, Msg::Item(r)));
                 self.turn = next_place(self.places, self.turn);
             }
             Dealing::OnDemand => self.free = Some(r),
             Dealing::ByKey(field) => {
                 let place = place_of(&r, field, self.places);
-                self.held = Held::one((place, Msg::Item(r)));
+                self.held.hold((place, Msg::Item(r)));
             }
             Dealing::GroupsInTurn => {
-                self.held = Held::two((self.turn, Msg::Item(r)), (self.turn, Msg::Mark));
+                self.held
+                    .hold_two((self.turn, Msg::Item(r)), (self.turn, Msg::Mark));
                 self.turn = next_place(self.places, self.turn);
             }
             Dealing::GroupsOnDemand => self.free = Some(r),

@@ -2,6 +2,7 @@
 ghost use Rattle.std.specs.Prelude.{◌≡◌, [], ◌∷◌, None};
 ghost use Rattle.ff_unit.specs.StageParts.{held_of, TakesHeld};
 
+use crate::take_out;
 use ff_node::Sends;
 use ff_rec::{Msg, Record};
 
@@ -18,12 +19,12 @@ pub(super) fn take_held(
         (held_of None sends.new.sends back.new) }
     ensures rest { sends.new ≡ record sends.old { sends = sends.new.sends } }
 {
-    if let Some(m) = front.take() {
+    if let Some(m) = take_out(front) {
         return Some(m);
     }
     match sends.take_first() {
         Some(r) => Some(Msg::Item(r)),
-        None => back.take(),
+        None => take_out(back),
     }
 }
 

@@ -15,6 +15,7 @@ use ff_rec::{Msg, Record};
 impl<N: Node> NodeRunner<N> {
     /// One step: it puts the first message that it holds, or else takes one, or flushes its out and ends. Behind the sends of a
     /// record that the node takes and goes on after it holds `behind`.
+    #[inline(always)]
     pub fn step<P: Ports<Record>>(&mut self, behind: Option<Msg<Record>>, ports: &mut P) -> Step
         requires { StageReady self.old (P.gots ports.old) (P.puts ports.old) }
         ensures one { One (runner_does N.does (option_to_list behind))
@@ -50,6 +51,7 @@ impl<N: Node> NodeRunner<N> {
     }
 
     // A step while nothing is held.
+    #[inline(always)]
     fn go_on<P: Ports<Record>>(&mut self, behind: Option<Msg<Record>>, ports: &mut P) -> Step
         requires held { self.old.held ≡ [] }
         requires one_in { length (P.gots ports.old) ≡ 1 }
@@ -75,6 +77,7 @@ impl<N: Node> NodeRunner<N> {
     }
 
     // Takes from the in.
+    #[inline(always)]
     fn take_one<P: Ports<Record>>(&mut self, behind: Option<Msg<Record>>, ports: &mut P) -> Step
         requires held { self.old.held ≡ [] }
         requires fin { self.old.fin ≡ None }

@@ -13,6 +13,7 @@ use ff_rec::{Msg, Record};
 
 impl<N: Node> NodeRunner<N> {
     /// Takes a message, while nothing is held.
+    #[inline(always)]
     pub(super) fn receive(&mut self, m: Msg<Record>, behind: Option<Msg<Record>>)
         requires held { self.old.held ≡ [] }
         requires fin { self.old.fin ≡ None }
@@ -25,6 +26,7 @@ impl<N: Node> NodeRunner<N> {
         }
     }
 
+    #[inline(always)]
     fn receive_live(&mut self, m: Msg<Record>, behind: Option<Msg<Record>>)
         requires held { self.old.held ≡ [] }
         requires fin { self.old.fin ≡ None }
@@ -64,6 +66,7 @@ impl<N: Node> NodeRunner<N> {
     }
 
     // The node takes a record: behind its sends `behind` is held.
+    #[inline(always)]
     fn work(&mut self, r: Record, behind: Option<Msg<Record>>)
         requires held { self.old.held ≡ [] }
         requires fin { self.old.fin ≡ None }

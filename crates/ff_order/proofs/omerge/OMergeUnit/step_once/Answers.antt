@@ -6,12 +6,12 @@ use Rattle.ff_order.proofs.omerge.OMergeUnit.step_once.Goals as goal
 
 pub returns-in-Done-clause-one : goal.returns-in-Done-clause-one
 returns-in-Done-clause-one g c =
-    let held = option_to_list c.take.new.self in record {
+    let held = option_to_list c.take_out.new.place in record {
       act = Gave 0 c.in-Some.m;
       steps = (
         refl,
-        sym (ap (λ u. u.held) c.self.view_is) ∙ ap option_to_list (sym c.take.ensures.value ∙ c.in-Some.is)
-            ∙ ap (λ o. c.in-Some.m ∷ option_to_list o) (sym c.take.ensures.after),
+        sym (ap (λ u. u.held) c.self.view_is) ∙ ap option_to_list (sym c.take_out.ensures.value ∙ c.in-Some.is)
+            ∙ ap (λ o. c.in-Some.m ∷ option_to_list o) (sym c.take_out.ensures.after),
         ap (λ (u : OMergeState). record u { held = held }) c.self.view_is,
       );
       takes = c.in-Done.ensures.gots;

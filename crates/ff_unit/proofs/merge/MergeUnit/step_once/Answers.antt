@@ -9,7 +9,7 @@ use Rattle.ff_unit.proofs.merge.MergeUnit.step_once.Goals as goal
 pub returns-in-Done-clause-one : goal.returns-in-Done-clause-one
 returns-in-Done-clause-one g c =
     let i = c.self.inside in
-    let new : MergeState = record { live = i.live; held = option_to_list c.take.new.self; end = i.end; done = i.done; told = i.told } in
+    let new : MergeState = record { live = i.live; held = option_to_list c.take_out.new.place; end = i.end; done = i.done; told = i.told } in
     subst (λ (u : MergeState). One merge_does u (g.P.Ports.gots c.args.ports.now) (g.P.Ports.puts c.args.ports.now) Moved new
     (g.P.Ports.gots c.try_put.new.self) (g.P.Ports.puts c.try_put.new.self)) c.self.view_is (record {
       act = Gave 0 c.in-Some.m;

@@ -12,7 +12,7 @@ returns c =
     let m = last_msg i.last in
     let rest = on_outs (i.next + 1) (i.outs - (i.next + 1)) m in
     sym c.self.view_is
-    ∙ ap (λ (o : Option Pair). option_to_list o ++ on_outs i.next (i.outs - i.next) m) (sym c.take.ensures.value ∙ c.in_default.is)
+    ∙ ap (λ (o : Option Pair). option_to_list o ++ on_outs i.next (i.outs - i.next) m) (sym c.take_out.ensures.value ∙ c.in_default.is)
     ∙ on_outs-next i.next i.outs m c.if-self.false
     ∙ ap (λ (n : Message). (i.next, n) ∷ rest) (sym c.message.ensures)
-    ∙ ap (λ (o : Option Pair). (i.next, c.message.result) ∷ (option_to_list o ++ rest)) (sym c.take.ensures.after)
+    ∙ ap (λ (o : Option Pair). (i.next, c.message.result) ∷ (option_to_list o ++ rest)) (sym c.take_out.ensures.after)
