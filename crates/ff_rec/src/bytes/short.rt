@@ -55,8 +55,7 @@ impl Short {
     {
         let mut room = [0; SHORT];
         room[..line.len()].copy_from_slice(line);
-        // All of the room is counted, which takes no loop. Behind the line it holds zeros.
-        let tab_count = count_few(&room);
+        let tab_count = count_few(line);
         let short = Short {
             align: [],
             len: line.len() as u8,

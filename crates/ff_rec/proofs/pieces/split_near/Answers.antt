@@ -1,5 +1,5 @@
 -- The first bytes lack the separator: it is the next one, or the rest is cut.
-use Rattle.std.proofs.Common.{◌≡◌, ◌+◌, drop, sym, ap, ◌∙◌, take_all, arith}
+use Rattle.std.proofs.Common.{◌≡◌, ◌+◌, drop, sym, ap, ◌∙◌}
 use Rattle.std.proofs.lemmas.List.{take_rest}
 use Rattle.ff_rec.specs.Lines.{cut}
 use Rattle.ff_rec.specs.Pieces.{whole_of}

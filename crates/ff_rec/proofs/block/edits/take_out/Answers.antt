@@ -1,5 +1,5 @@
 -- The field goes with the tab behind it, or at the end with the one before it.
-use Rattle.std.proofs.Common.{List, ℕ, ◌≤◌, ◌<◌, length, ap, ◌∙◌, arith}
+use Rattle.std.proofs.Common.{◌≤◌, ◌<◌, length, ap, ◌∙◌, arith}
 use Rattle.ff_rec.specs.Lines.{cut}
 use Rattle.ff_rec.specs.Stored.{Stored}
 use Rattle.ff_rec.proofs.Edits.{cut-removed, cut-removed_last}

@@ -1,5 +1,5 @@
 -- Plain bytes are one field.
-use Rattle.std.proofs.Common.{List, ℕ, ◌∷◌, [], sym, subst, ap, ◌∙◌}
+use Rattle.std.proofs.Common.{sym, subst, ap, ◌∙◌}
 use Rattle.ff_rec.specs.Lines.{cut}
 use Rattle.ff_rec.specs.Block.{IsBlock}
 use Rattle.ff_rec.specs.Stored.{Stored}

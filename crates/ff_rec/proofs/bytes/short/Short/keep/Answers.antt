@@ -1,5 +1,5 @@
 -- The part stands at the front.
-use Rattle.std.proofs.Common.{◌≡◌, ◌-◌, ◌≤◌, List, ℕ, length, take, slice_range, ap, ◌∙◌, arith, length-take}
+use Rattle.std.proofs.Common.{◌-◌, ◌≤◌, List, ℕ, length, take, slice_range, ap, ◌∙◌, arith, length-take}
 use Rattle.ff_rec.proofs.Filled.{take-kept}
 use Rattle.ff_rec.proofs.bytes.short.Short.keep.Goals as goal
 

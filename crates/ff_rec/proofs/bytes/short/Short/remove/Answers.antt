@@ -1,5 +1,5 @@
 -- What stood behind the part stands at its start.
-use Rattle.std.proofs.Common.{◌≡◌, ◌+◌, ◌-◌, ◌≤◌, ◌++◌, List, ℕ, length, take, drop, ap, ◌∙◌, arith, length-take}
+use Rattle.std.proofs.Common.{◌+◌, ◌-◌, ◌≤◌, ◌++◌, List, ℕ, length, take, drop, ap, ◌∙◌, arith, length-take}
 use Rattle.std.specs.List.{copy_within}
 use Rattle.ff_rec.proofs.Filled.{take-removed}
 use Rattle.ff_rec.proofs.bytes.short.Short.remove.Goals as goal
