@@ -19,7 +19,6 @@ use std::marker::Model;
 
 /// A unit whose in 0 gives tasks, and whose other ins give the answers of its workers; its outs are those to the workers,
 /// and the last one is for the results. A worker has one task at a time, so its edge has room for the next one.
-#[derive(Drop)]
 pub struct WrapMaster {
     work: Work,
     // For each worker what came of its answer so far.
@@ -34,6 +33,28 @@ pub struct WrapMaster {
     told: bool,
     // From which answers take their memory.
     alloc: Global,
+}
+
+// By hand, so that letting one go is one call for what holds it.
+impl Drop for WrapMaster {
+    fn drop(self) {
+        let WrapMaster {
+            work,
+            parts,
+            live,
+            held,
+            mode: _,
+            end: _,
+            over: _,
+            done: _,
+            told: _,
+            alloc: _,
+        } = self;
+        drop(work);
+        drop(parts);
+        drop(live);
+        drop(held);
+    }
 }
 
 impl Model for WrapMaster {

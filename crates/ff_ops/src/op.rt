@@ -14,12 +14,25 @@ use std::alloc::{AllocError, Global};
 use std::marker::Model;
 
 /// A row of the table with arguments that fit it, as a node.
-#[derive(Debug, Drop)]
+#[derive(Debug)]
 pub struct Op {
     row: Row,
     args: Vec<Arg>,
     // What the row does with these arguments, and how far it has come.
     family: Family,
+}
+
+// By hand, so that a crate that lets operations go proves one call, and not each part of each family.
+impl Drop for Op {
+    fn drop(self) {
+        let Op {
+            row: _,
+            args,
+            family,
+        } = self;
+        drop(args);
+        drop(family);
+    }
 }
 
 impl Model for Op {

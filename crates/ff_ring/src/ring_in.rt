@@ -12,7 +12,6 @@ use ff_rec::Msg;
 
 /// The reading end of a ring. It opens one bundle after another, and gives an emptied block back as it opens the next. The
 /// writer is told of the blocks that came back, and in any case where nothing is left to take.
-#[derive(Drop)]
 pub struct RingIn<T> {
     pub(crate) inlet: Inlet<T>,
     pub(crate) bundle: Bundle<T>,
@@ -20,6 +19,19 @@ pub struct RingIn<T> {
     ghost roomy: { 0 < deque_capacity bundle },
     // The bundle that is open came last.
     ghost rest: { EndsWith bundle.items (flat_map deque_items (received inlet.end)) },
+}
+
+// By hand, so that letting an end go is one call for what holds it.
+impl<T: Drop> Drop for RingIn<T> {
+    fn drop(self) {
+        let RingIn {
+            inlet,
+            bundle,
+            eager: _,
+        } = self;
+        drop(inlet);
+        drop(bundle);
+    }
 }
 
 impl<T> RingIn<T> {

@@ -10,7 +10,6 @@ use ff_rec::Msg;
 
 /// The writing end of a ring. It gathers messages and hands them over in bundles. Messages that wait here are handed
 /// over by later puts and by `flush`.
-#[derive(Drop)]
 pub struct RingOut<T> {
     pub(crate) outlet: Outlet<T>,
     pub(crate) bundle: Bundle<T>,
@@ -18,6 +17,19 @@ pub struct RingOut<T> {
     ghost roomy: { 0 < deque_capacity bundle },
     // A ring of one slot holds one message, and not another in the bundle.
     ghost alone: { producer_capacity outlet.end ≡ 1 → bundle.items ≡ [] },
+}
+
+// By hand, so that letting an end go is one call for what holds it.
+impl<T: Drop> Drop for RingOut<T> {
+    fn drop(self) {
+        let RingOut {
+            outlet,
+            bundle,
+            eager: _,
+        } = self;
+        drop(outlet);
+        drop(bundle);
+    }
 }
 
 impl<T> RingOut<T> {

@@ -11,9 +11,16 @@ use ff_unit::{Deal, Merge, Stage, Unit};
 use std::marker::Model;
 
 /// A unit of a network: a stage, a deal, a merge, the deal or merge of an ordered farm, or the master or a worker of a wrap.
-#[derive(Drop)]
 pub struct NetUnit<N> {
     part: Part<N>,
+}
+
+// By hand, so that a crate that lets units go proves one call, and not each part of each kind.
+impl<N: Drop> Drop for NetUnit<N> {
+    fn drop(self) {
+        let NetUnit { part } = self;
+        drop(part);
+    }
 }
 
 // What it is. A leaf runs as the comb of its one node.

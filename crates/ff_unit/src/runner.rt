@@ -17,7 +17,6 @@ use std::marker::Model;
 
 /// What runs a node: it takes messages at an in, and puts what the node sends at an out. A stage is one, and so is a unit that puts
 /// something behind the sends of each record.
-#[derive(Drop)]
 pub struct NodeRunner<N> {
     node: N,
     // What is to be put: a message in front, the records that the node sent, and a message behind.
@@ -32,6 +31,29 @@ pub struct NodeRunner<N> {
     taken: Past<Record>,
     // From which sends take their memory.
     alloc: Global,
+}
+
+// By hand, so that letting one go is one call for the units round it.
+impl<N: Drop> Drop for NodeRunner<N> {
+    fn drop(self) {
+        let NodeRunner {
+            node,
+            front,
+            sends,
+            back,
+            mode: _,
+            fin: _,
+            done: _,
+            told: _,
+            taken,
+            alloc: _,
+        } = self;
+        drop(node);
+        drop(front);
+        drop(sends);
+        drop(back);
+        drop(taken);
+    }
 }
 
 impl<N> Model for NodeRunner<N> {
