@@ -15,8 +15,8 @@ use Rattle.ff_text.specs.SpellingLaw.{SpellingIsOfOneNet}
 use Rattle.ff_plan.specs.declared.kind.Queue.{Queue}
 use Rattle.ff_top.proofs.Accepted.{None-description, Soak-description, DidSoak-description, Did-accepted, Did-refused, IsStop, IsStop-accepted, Rose-more}
 use Rattle.ff_top.proofs.Limited.{limit_by-left}
-use Rattle.ff_top.specs.Commands.{DoneWith, given_to, is_built, IsInLimits, IsBeyond}
-use Rattle.ff_top.specs.Endings.{Did, DidSoak, Comes, Counts, IsAccepted, IsRefused, IsComplete, description}
+use Rattle.ff_top.specs.Commands.{DoneWith, given_to, is_built, reads_input, IsInLimits, IsBeyond}
+use Rattle.ff_top.specs.Endings.{Did, DidSoak, Comes, Counts, IsAccepted, IsRefused, IsComplete, ReadsNone, description}
 use Rattle.ff_top.specs.Messages.{fault_status, given_status, run_status, print_status, soak_status, status_of}
 use Rattle.ff_top.specs.Outside.{Outside, IsQuiet, streams_of}
 use Rattle.ff_top.specs.Running.{run_job}
@@ -203,6 +203,11 @@ run_low run.Refused = omega arith
 run_low (run.Tasks m) = omega arith
 run_low _ = omega arith
 
+run_late : (cause : RunCause) → 3 ≤ run_status cause
+run_late run.Refused = omega arith
+run_late (run.Tasks m) = omega arith
+run_late _ = omega arith
+
 print_low : (fault : PrintFault) → 2 ≤ print_status fault
 print_low print.Write = omega arith
 print_low print.NoMemory = omega arith
@@ -256,6 +261,43 @@ module _ (words : List (List ℕ)) (before now : Outside) where
     | inr ran ↦ absurd (None-Some (command words) _ none ran.is_command)
   ]
   no_command status (Err fault) is comes none = fault_no_command status fault is comes none
+
+-- a fault with status 1 or 2 comes before the input is read
+pub ReadsNone-early : (status : ℕ) (answer : Result ℕ Fault) (job : Option Command) → status ≡ status_of answer → (status ≡ 1) ⊎ (status ≡ 2)
+    → ReadsNone job answer
+ReadsNone-early status (Ok n) job is early = elim early [
+  | inl one ↦ absurd (omega (arith, is, one))
+  | inr two ↦ absurd (omega (arith, is, two))
+]
+ReadsNone-early status (Err (Run cause)) job is early = elim early [
+  | inl one ↦ omega (arith, is, one, run_late cause)
+  | inr two ↦ omega (arith, is, two, run_late cause)
+]
+ReadsNone-early status (Err (Words fault)) job is early = tt
+ReadsNone-early status (Err NotBuilt) job is early = tt
+ReadsNone-early status (Err (Given fault)) job is early = tt
+ReadsNone-early status (Err (Print fault)) job is early = tt
+ReadsNone-early status (Err (Soak cause)) job is early = tt
+
+-- only `run` has the faults of a run
+reads_input-run : (job : Command) (t : Tree OpState) (before now : Outside) (cause : RunCause) → DoneWith job t before now (Err (Run cause)) → reads_input job ≡ true
+reads_input-run (of.Run given cap queue tasks one rejects) t before now cause h = refl
+reads_input-run (of.Check given) t before now cause h = absurd h
+reads_input-run (of.Plan given) t before now cause h = absurd h
+reads_input-run job t before now cause h = absurd h
+
+-- a command that doesn't read the input reads none of it, whatever comes of it
+pub ReadsNone-other : (words : List (List ℕ)) (before now : Outside) (answer : Result ℕ Fault) → Comes words before now answer
+    → IsSomeAnd (command words) (λ job. reads_input job ≡ false) → ReadsNone (command words) answer
+ReadsNone-other words before now (Ok n) comes other = other
+ReadsNone-other words before now (Err (Run cause)) d other =
+    let none : reads_input d.job ≡ false = subst (λ (o : Option Command). IsSomeAnd o (λ job. reads_input job ≡ false)) d.is_command other in
+    let e : true ≡ false = sym (reads_input-run d.job d.net before now cause d.done) ∙ none in absurd (cc)
+ReadsNone-other words before now (Err (Words fault)) comes other = tt
+ReadsNone-other words before now (Err NotBuilt) comes other = tt
+ReadsNone-other words before now (Err (Given fault)) comes other = tt
+ReadsNone-other words before now (Err (Print fault)) comes other = tt
+ReadsNone-other words before now (Err (Soak cause)) comes other = tt
 
 -- each status is one of the seven
 pub Contains-status : (status : ℕ) (answer : Result ℕ Fault) → status ≡ status_of answer → Contains (0 ∷ 1 ∷ 2 ∷ 3 ∷ 4 ∷ 5 ∷ 6 ∷ []) status

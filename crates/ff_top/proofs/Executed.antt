@@ -1,6 +1,6 @@
 -- From what the parts of a call did to how the call ends.
-use Rattle.std.proofs.Common.{◌≡◌, ℕ, List, Option, None, Some, IsSomeAnd, sym, ap, subst, ◌∙◌, inl, inr}
-use Rattle.std.specs.Prelude.{Bool, Result, Ok, Err, option_and_then}
+use Rattle.std.proofs.Common.{◌≡◌, ℕ, List, Option, None, Some, IsSomeAnd, refl, sym, ap, subst, ◌∙◌, inl, inr}
+use Rattle.std.specs.Prelude.{Bool, true, false, Result, Ok, Err, IfErr, option_and_then}
 use Rattle.std.proofs.KnownBytes.{Keeps-refl}
 use Rattle.ff_io.specs.FileLaws.{KeepsAll-trans, KeepsOthers-trans, KeepsOthers-from_KeepsAll}
 use Rattle.ff_io.specs.Files.{Holdings, KeepsAll, KeepsOthers}
@@ -9,8 +9,8 @@ use Rattle.ff_ops.specs.Operation.{OpState}
 use Rattle.ff_rec.specs.Lines.{Rec}
 use Rattle.ff_stream.specs.Jobs.{Job}
 use Rattle.ff_stream.specs.declared.ending.Stop.{Stop}
-use Rattle.ff_top.specs.Commands.{DoneWith, given_to}
-use Rattle.ff_top.specs.Endings.{Did, DidSoak, Comes, Counts, description}
+use Rattle.ff_top.specs.Commands.{DoneWith, given_to, reads_input}
+use Rattle.ff_top.specs.Endings.{Did, DidSoak, Comes, Counts, ReadsNone, description}
 use Rattle.ff_top.specs.Outside.{Outside, IsUntouched}
 use Rattle.ff_top.specs.Running.{KeepsBut, Stored, HasStored, Ran, RunCounts, run_files}
 use Rattle.ff_top.specs.Working.{Handled, Worked}
@@ -26,7 +26,14 @@ use Rattle.ff_words.specs.declared.command.Given.{Given}
 -- nothing was done but to read the text, which keeps the files
 pub untouched : (before : Outside) (told : Option Holdings) (n : ℕ) → KeepsAll before.told told
     → IsUntouched before (record before { told = told; files_faults = n })
-untouched before told n keeps = record { left = Keeps-refl before.left; taken = Keeps-refl before.taken; files = keeps }
+untouched before told n keeps = record {
+  left = Keeps-refl before.left;
+  ended = refl;
+  taken = Keeps-refl before.taken;
+  starts = refl;
+  worked = refl;
+  files = keeps;
+}
 
 -- the files, from before the text was read
 others : (old mid now : Option Holdings) (name : List ℕ) → KeepsAll old mid → KeepsOthers mid now name → KeepsOthers old now name
@@ -65,11 +72,21 @@ module _ (j : Job OpState) (threads : Bool) (rejects : Option (List ℕ)) (befor
     rejected = h.rejected;
     named = h.named;
     others = others before.told mid now.told name kept h.others;
+    work = λ by. record { starts = (h.work by).starts; worked = (h.work by).worked };
   }
-  Ran-early (Err Refused) h = (h.0, KeepsAll-trans before.told mid now.told kept h.1)
+  Ran-early (Err Refused) h = (h.0, h.1, KeepsAll-trans before.told mid now.told kept h.2)
   Ran-early (Err (Tasks m)) h = (h.0, h.1, KeepsAll-trans before.told mid now.told kept h.2)
   Ran-early (Err Write) h = (h.0, KeepsAll-trans before.told mid now.told kept h.1)
-  Ran-early (Err NoMemory) h = (h.0, KeepsBut-all rejects before.told mid now.told kept h.1)
+  Ran-early (Err NoMemory) h = elim h [
+    | inl short ↦ inl (short.0, KeepsAll-trans before.told mid now.told kept short.1)
+    | inr out ↦ inr (record {
+      ending = out.ending;
+      ran = out.ran;
+      reading = out.reading;
+      kept = KeepsBut-all rejects before.told mid now.told kept out.kept;
+      work = λ by. record { starts = (out.work by).starts; worked = (out.work by).worked };
+    })
+  ]
 
   -- the counts, from before the text was read
   pub Counts-done : (k : ℕ) → n ≡ before.files_faults → RunCounts late now (Ok k) → Counts before now (Ok k)
@@ -77,6 +94,17 @@ module _ (j : Job OpState) (threads : Bool) (rejects : Option (List ℕ)) (befor
 
   pub Counts-stopped : (cause : RunCause) → n ≡ before.files_faults → RunCounts late now (Err cause) → Counts before now (Err (fault.Run cause))
   Counts-stopped cause same c = record { files = c.files ∙ ap (λ m. run_files m cause) same; input = c.input; output = c.output; starts = c.starts }
+
+-- what a command that reads the input ensures of its faults, it ensures of all its answers at which nothing is read
+pub ReadsNone-run : {P : Type 0} (job : Command) (answer : Result ℕ Fault) → reads_input job ≡ true → ReadsNone (Some job) answer
+    → IfErr answer (λ fault. ReadsNone None (Err fault) → P) → P
+ReadsNone-run job (Ok n) is none early = let e : true ≡ false = sym is ∙ none in absurd (cc)
+ReadsNone-run job (Err (fault.Run cause)) is none early = absurd none
+ReadsNone-run job (Err (fault.Words f)) is none early = early tt
+ReadsNone-run job (Err fault.NotBuilt) is none early = early tt
+ReadsNone-run job (Err (fault.Given f)) is none early = early tt
+ReadsNone-run job (Err (fault.Print f)) is none early = early tt
+ReadsNone-run job (Err (fault.Soak cause)) is none early = early tt
 
 -- the faults that come once a command has a network
 abbrev IsLate : Fault → Type 0

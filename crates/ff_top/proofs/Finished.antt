@@ -1,9 +1,8 @@
 -- How a run ends, from how its network answered and how the file for the rejected records did.
-use Rattle.std.proofs.Common.{◌≡◌, ℕ, List, [], Option, None, Some, refl, sym, subst, inl, inr, append-nil}
+use Rattle.std.proofs.Common.{◌≡◌, ℕ, List, Option, refl, sym, subst, inl, inr}
 use Rattle.std.specs.Prelude.{Bool, true, Result, Ok, Err}
-use Rattle.ff_rec.specs.Lines.{Rec, text}
-use Rattle.ff_io.specs.FileLaws.{KeepsOthers-from_KeepsAll}
-use Rattle.ff_io.specs.Files.{Holdings, KeepsAll}
+use Rattle.ff_rec.specs.Lines.{Rec}
+use Rattle.ff_io.specs.Files.{Holdings}
 use Rattle.ff_net.specs.Tree.{Tree}
 use Rattle.ff_ops.specs.Operation.{OpState}
 use Rattle.ff_stream.specs.declared.ending.Report.{Report}
@@ -11,21 +10,15 @@ use Rattle.ff_stream.specs.Jobs.{Job}
 use Rattle.ff_engine.specs.Runs.{CountsNetInput, net_output_count, refused_count}
 use Rattle.ff_engine.specs.declared.fault.NetFault.{NetFault}
 use Rattle.ff_engine.specs.declared.fault.NetFault.TheVariants as net
-use Rattle.ff_stream.specs.Endings.{HasRun, IsReadOut, IsCutShort, Told, stop_count}
+use Rattle.ff_stream.specs.Endings.{Told, stop_count}
 use Rattle.ff_stream.specs.declared.ending.Ending.{Ending}
-use Rattle.ff_stream.specs.declared.fault.Halt.TheVariants as halt
 use Rattle.ff_stream.specs.declared.fault.RunFault.TheVariants as run
 use Rattle.ff_stream.specs.declared.ending.Stop.{Stop}
 use Rattle.ff_stream.specs.declared.ending.Stop.TheVariants as stop
 use Rattle.ff_top.specs.Finishing.{Answered, Closes, Finished, closing}
 use Rattle.ff_top.specs.Outside.{Outside, StaysOrRises, count_by, streams_of}
-use Rattle.ff_top.specs.Running.{KeepsBut, Stored, Ran, RanByThreads, CountsRun, run_output, run_refused, run_job}
+use Rattle.ff_top.specs.Running.{Stored, Ran, RanByThreads, CountsRun, run_output, run_refused, run_job}
 use Rattle.ff_top.specs.declared.run_cause.RunCause.{RunCause}
-
--- files that were all kept
-KeepsBut-all : (rejects : Option (List ℕ)) (told now : Option Holdings) → KeepsAll told now → KeepsBut rejects told now
-KeepsBut-all None told now keeps = keeps
-KeepsBut-all (Some name) told now keeps = KeepsOthers-from_KeepsAll told now name keeps
 
 module _ (t : Tree OpState) (tasks : ℕ) (threads : Bool) (rejects : Option (List ℕ)) (before now : Outside) where
   abbrev j : Job OpState
@@ -34,21 +27,6 @@ module _ (t : Tree OpState) (tasks : ℕ) (threads : Bool) (rejects : Option (Li
   -- it ran by threads, where it was to
   abbrev by : List Rec → Type 0
   by xs = threads ≡ true → RanByThreads j xs before now
-
-  -- a run that came to its end had read all, and written a beginning of an answer
-  IsCutShort-run : (ending : Ending) → HasRun j (streams_of before now) ending
-      → now.input_faults ≡ stop_count before.input_faults ending.stop → IsCutShort j (streams_of before now) halt.NoMemory
-  IsCutShort-run ending r counts =
-      let out : IsReadOut j (streams_of before now) r.got = record { stop = ending.stop; stops = r.stops; counts = counts } in
-      record {
-        got = r.got;
-        reads = r.reads;
-        front = text r.sent;
-        writes = r.writes;
-        begun = inr (record { sent = r.sent; back = []; answers = r.answers; splits = sym (append-nil (text r.sent)) });
-        goes_on = inl out;
-        waits = λ wraps. inl out;
-      }
 
   -- what was stored behind a run that stopped reading so
   Ran-closing : (why : Stop) (report : Report) → Told j (streams_of before now) by (record { stop = why; report = report })
@@ -67,8 +45,8 @@ module _ (t : Tree OpState) (tasks : ℕ) (threads : Bool) (rejects : Option (Li
         | inl closed ↦ subst P (sym closed.0) (Ran-closing ending.stop ending.report r closed.1)
         | inr other ↦ elim other [
           | inl failed ↦ subst P (sym failed.is)
-              (record { ending = ending; ran = r.run; reading = counts; rejected = refl; named = failed.named; others = failed.others })
-          | inr short ↦ subst P (sym short.0) (IsCutShort-run ending r.run counts, short.1)
+              (record { ending = ending; ran = r.run; reading = counts; rejected = refl; named = failed.named; others = failed.others; work = r.told })
+          | inr short ↦ subst P (sym short.0) (inr (record { ending = ending; ran = r.run; reading = counts; kept = short.1; work = r.told }))
         ]
       ]
 
@@ -77,13 +55,13 @@ module _ (t : Tree OpState) (tasks : ℕ) (threads : Bool) (rejects : Option (Li
       → Ran j threads rejects before now answer
   Ran-finished (Ok ending) answer r counts finished = Ran-closed ending answer r counts finished
   Ran-finished (Err net.Refused) answer r counts finished =
-      subst (λ (a : Result ℕ RunCause). Ran j threads rejects before now a) (sym finished.0) (r, finished.1)
+      subst (λ (a : Result ℕ RunCause). Ran j threads rejects before now a) (sym finished.0) (r.0, r.1, finished.1)
   Ran-finished (Err (net.Run run.Tasks)) answer r counts finished =
       subst (λ (a : Result ℕ RunCause). Ran j threads rejects before now a) (sym finished.0) (refl, r, finished.1)
   Ran-finished (Err (net.Run run.Write)) answer r counts finished =
       subst (λ (a : Result ℕ RunCause). Ran j threads rejects before now a) (sym finished.0) (r, finished.1)
   Ran-finished (Err (net.Run run.NoMemory)) answer r counts finished =
-      subst (λ (a : Result ℕ RunCause). Ran j threads rejects before now a) (sym finished.0) (r, KeepsBut-all rejects before.told now.told finished.1)
+      subst (λ (a : Result ℕ RunCause). Ran j threads rejects before now a) (sym finished.0) (inl (r, finished.1))
 
 -- a count of the input's faults where reading stopped so
 StaysOrRises-stop : (why : Stop) (before now : ℕ) → now ≡ stop_count before why → StaysOrRises before now

@@ -1,10 +1,10 @@
 -- Pieces that a sink takes one behind another.
-use Rattle.std.proofs.Common.{◌≡◌, ℕ, List, ◌++◌, ◌≤◌, Option, sym, ap, subst, ◌∙◌, append_assoc, arith}
+use Rattle.std.proofs.Common.{◌≡◌, ℕ, List, ◌++◌, Option, sym, ap, subst, ◌∙◌, append_assoc}
 use Rattle.std.specs.Io.KnownBytes.{Appends}
 use Rattle.std.specs.Prelude.{Result, Ok, Err, OnOk}
 use Rattle.std.proofs.KnownBytes.{Appends-trans}
 use Rattle.ff_io.specs.Bytes.{AppendsPrefix}
-use Rattle.ff_io.specs.Faults.{HasCause}
+use Rattle.ff_io.specs.Faults.{count_after}
 use Rattle.ff_top.specs.Messages.{Writes}
 
 -- what is a prefix of bytes is one of more bytes
@@ -25,10 +25,6 @@ AppendsPrefix-then a b c xs ys whole h = record {
   appends = Appends-trans a b c xs h.front whole h.appends;
 }
 
-HasCause-then : {A E : Type 0} (r : Result A E) (a b c : ℕ) → a ≤ b → HasCause b c r → HasCause a c r
-HasCause-then (Ok x) a b c stays h = record { stays = omega (arith, stays, h.stays); rose = tt }
-HasCause-then (Err e) a b c stays h = record { stays = omega (arith, stays, h.stays); rose = omega (arith, stays, h.rose) }
-
 OnOk-then : {A E : Type 0} (r : Result A E) (a b c : Option (List ℕ)) (xs ys : List ℕ) → Appends a b xs → OnOk r (Appends b c ys) → OnOk r (Appends a c (xs ++ ys))
 OnOk-then (Ok x) a b c xs ys whole h = Appends-trans a b c xs ys whole h
 OnOk-then (Err e) a b c xs ys whole h = tt
@@ -40,7 +36,7 @@ module _ {A E : Type 0} where
   Writes-stopped a b fa fb xs ys r e d is w = subst (λ (q : Result A E). Writes a b fa fb (xs ++ ys) q) (sym is) (record {
     all = tt;
     front = AppendsPrefix-more a b xs ys w.front;
-    cause = record { stays = w.cause.stays; rose = w.cause.rose };
+    counts = w.counts;
   })
 
   -- a piece behind another
@@ -49,5 +45,5 @@ module _ {A E : Type 0} where
   Writes-then a b c fa fb fc xs ys x r first second = record {
     all = OnOk-then r a b c xs ys first.all second.all;
     front = AppendsPrefix-then a b c xs ys first.all second.front;
-    cause = HasCause-then r fa fb fc first.cause.stays second.cause;
+    counts = second.counts ∙ ap (λ n. count_after n r) first.counts;
   }

@@ -25,6 +25,11 @@ is_built (Plan given) = true
 is_built (Soak n workers cap queue) = true
 is_built _ = false
 
+-- whether a command reads the input
+abbrev pub reads_input : Command → Bool
+reads_input (Run given cap queue tasks one rejects) = true
+reads_input _ = false
+
 -- the text or file of a command that is built, where it is given one
 abbrev pub given_to : Command → Option Given
 given_to (Run given cap queue tasks one rejects) = Some given

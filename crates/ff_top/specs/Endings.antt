@@ -4,7 +4,7 @@ use Rattle.ff_net.specs.Tree.{Tree}
 use Rattle.ff_ops.specs.Operation.{OpState}
 use Rattle.ff_top.specs.Printing.{print_output}
 use Rattle.ff_plan.specs.declared.kind.Queue.{Queue}
-use Rattle.ff_top.specs.Commands.{DoneWith, SoakDone, given_to, is_built, IsInLimits, IsBeyond}
+use Rattle.ff_top.specs.Commands.{DoneWith, SoakDone, given_to, is_built, reads_input, IsInLimits, IsBeyond}
 use Rattle.ff_top.specs.Messages.{said, status_of, Tells}
 use Rattle.ff_top.specs.Outside.{Outside, World, IsUntouched, IsQuiet}
 use Rattle.ff_top.specs.Running.{run_files, run_output, run_refused, RunInput}
@@ -64,6 +64,12 @@ Comes words before now (Err (Given fault)) =
 Comes words before now (Err (Run fault)) = Did words before now (Err (Run fault))
 Comes words before now (Err (Print fault)) = Did words before now (Err (Print fault))
 Comes words before now (Err (Soak cause)) = DidSoak words before now (Err (Soak cause))
+
+-- nothing is read at this answer to these words: they are no command that reads the input, or the fault comes before its run
+abbrev pub ReadsNone : Option Command → Result ℕ Fault → Type 0
+ReadsNone job (Ok n) = IsSomeAnd job (λ j. reads_input j ≡ false)
+ReadsNone job (Err (Run cause)) = ⊥
+ReadsNone job (Err fault) = Unit {0}
 
 -- the counts of the files' and the output's faults and of refused starts after this answer: one more of what failed, and else
 -- the same

@@ -44,11 +44,12 @@ closing stop.End n = Ok n
 closing stop.Read n = Err (Read n)
 closing (stop.Line fault) n = Err (Line fault n)
 
--- how the network answered, and that it ran by threads, where it was to
+-- How the network answered, and that it ran by threads, where it was to. Without threads no start is refused.
 abbrev pub Answered : Job OpState → Bool → Outside → Outside → Result Ending NetFault → Type 0
 Answered j threads before now (Ok ending) =
     Told j (streams_of before now) (λ xs. threads ≡ true → RanByThreads j xs before now) ending
-Answered j threads before now (Err fault) = NetRan j (streams_of before now) (Err fault)
+Answered j threads before now (Err net.Refused) = (threads ≡ true) × NetRan j (streams_of before now) (Err net.Refused)
+Answered j threads before now (Err (net.Run fault)) = NetRan j (streams_of before now) (Err (net.Run fault))
 
 -- by the answer of the network
 abbrev pub Finished : ℕ → Option (List ℕ) → Result Ending NetFault → Option Holdings → Option Holdings → Result ℕ RunCause → Type 0

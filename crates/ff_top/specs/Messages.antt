@@ -1,11 +1,11 @@
 -- What a call says on its second sink.
-use Rattle.std.specs.Prelude.{ℕ, ◌==◌, if◌then◌else◌, ◌⊎◌, List, [], ◌∷◌, ◌++◌, Option, Result, Ok, Err, OnOk, codes}
+use Rattle.std.specs.Prelude.{◌≡◌, ℕ, ◌==◌, if◌then◌else◌, ◌⊎◌, List, [], ◌∷◌, ◌++◌, Option, Result, Ok, Err, OnOk, codes}
 use Rattle.std.specs.Fmt.{decimal}
 use Rattle.std.specs.Io.KnownBytes.{Appends}
 use Rattle.std.specs.List.{flat_map}
 use Rattle.ff_io.specs.Bytes.{AppendsPrefix}
-use Rattle.ff_io.specs.Faults.{HasCause}
-use Rattle.ff_rec.specs.Counts.{Rose}
+use Rattle.ff_io.specs.Faults.{count_after}
+use Rattle.ff_rec.specs.Counts.{more}
 use Rattle.ff_rec.specs.declared.fault.LineFault.{LineFault}
 use Rattle.ff_rec.specs.declared.fault.LineFault.TheVariants.{TooLong, TooManyFields, InputTooLong}
 use Rattle.ff_text.specs.declared.fault.TextKind.{TextKind}
@@ -172,13 +172,14 @@ abbrev pub status_of : Result ℕ Fault → ℕ
 status_of (Ok rejected) = 0
 status_of (Err fault) = fault_status fault
 
--- Bytes were written with this answer: all of them, or a prefix where it failed, and then the count of faults rose.
+-- Bytes were written with this answer: all of them, or a prefix where it failed, and then the count of faults rose by one.
 pub record Writes {A E : Type 0} (before now : Option (List ℕ)) (faults faults_now : ℕ) (bytes : List ℕ) (answer : Result A E) : Type 0 where
   pub all : OnOk answer (Appends before now bytes)
   pub front : AppendsPrefix before now bytes
-  pub cause : HasCause faults faults_now answer
+  pub counts : faults_now ≡ count_after faults answer
 
--- a sink took all these bytes, or a prefix of them where it failed
+-- a sink took all these bytes, or a prefix of them where it failed once
 abbrev pub Tells : Option (List ℕ) → Option (List ℕ) → ℕ → ℕ → List ℕ → Type 0
 Tells before now faults faults_now bytes =
-    Appends before now bytes ⊎ (Rose faults faults_now × AppendsPrefix before now bytes)
+    (Appends before now bytes × (faults_now ≡ faults))
+    ⊎ (AppendsPrefix before now bytes × (faults_now ≡ more faults))

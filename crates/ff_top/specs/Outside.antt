@@ -46,10 +46,13 @@ pub record World : Type 0 where
 abbrev pub streams_of : Outside → Outside → Streams
 streams_of before now = streams (λ o. o.left) (λ o. o.ended) (λ o. o.input_faults) (λ o. o.taken) before now before now
 
--- nothing was read, nothing written, and every name of the files holds what it held
+-- nothing was read, nothing written, no thread was started, and every name of the files holds what it held
 pub record IsUntouched (before now : Outside) : Type 0 where
   pub left : Keeps before.left now.left
+  pub ended : now.ended ≡ before.ended
   pub taken : Keeps before.taken now.taken
+  pub starts : now.starts ≡ before.starts
+  pub worked : now.worked ≡ before.worked
   pub files : KeepsAll before.told now.told
 
 -- no count of faults rose, and no start was refused more

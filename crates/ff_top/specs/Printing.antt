@@ -1,5 +1,5 @@
 -- What the commands `check` and `plan` do with a network, at each of their answers.
-use Rattle.std.specs.Prelude.{◌≡◌, ℕ, List, [], ◌∷◌, ◌++◌, Option, Result, Ok, Err, OnOk, IfOk}
+use Rattle.std.specs.Prelude.{◌≡◌, ℕ, List, [], ◌∷◌, ◌++◌, Option, Result, Ok, Err, OnOk, IfOk, IfErr}
 use Rattle.std.specs.Io.KnownBytes.{Appends, Keeps}
 use Rattle.ff_rec.specs.Counts.{more}
 use Rattle.ff_io.specs.Bytes.{AppendsPrefix}
@@ -26,21 +26,32 @@ abbrev pub print_output : ℕ → PrintFault → ℕ
 print_output n Write = more n
 print_output n NoMemory = n
 
--- a text was written with this answer: all of it, or a prefix; no record is rejected
+-- what the output took of these bytes where a print ended so: only a write that failed may leave a part of them
+abbrev pub LeavesPart : PrintFault → Option (List ℕ) → Option (List ℕ) → List ℕ → Type 0
+LeavesPart Write before now bytes = AppendsPrefix before now bytes
+LeavesPart NoMemory before now bytes = now ≡ before
+
+-- a text was written with this answer: all of it, a part or nothing; no record is rejected
 pub record Prints (text : List ℕ) (before now : Option (List ℕ)) (faults faults_now : ℕ) (answer : Result ℕ PrintFault) : Type 0 where
   pub none : IfOk answer (λ n. n ≡ 0)
   pub all : OnOk answer (Appends before now text)
-  pub prefix : AppendsPrefix before now text
+  pub part : IfErr answer (λ fault. LeavesPart fault before now text)
   pub counts : faults_now ≡ count_by print_output faults answer
 
 -- nothing was read, and every name of the files holds what it held
 pub record ReadsNothing (before now : Outside) : Type 0 where
   pub left : Keeps before.left now.left
+  pub ended : now.ended ≡ before.ended
   pub files : KeepsAll before.told now.told
+
+-- no thread was started, and none had anything to do
+pub record StartsNothing (before now : Outside) : Type 0 where
+  pub starts : now.starts ≡ before.starts
+  pub worked : now.worked ≡ before.worked
 
 -- how the print of a network that keeps all rules ends
 abbrev pub Printed : Form → Tree OpState → Outside → Outside → Result ℕ PrintFault → Type 0
 Printed form t before now (Ok n) =
-    (n ≡ 0) × Appends before.taken now.taken (printed form t) × ReadsNothing before now
+    (n ≡ 0) × Appends before.taken now.taken (printed form t) × ReadsNothing before now × StartsNothing before now
 Printed form t before now (Err fault) =
-    AppendsPrefix before.taken now.taken (printed form t) × ReadsNothing before now
+    LeavesPart fault before.taken now.taken (printed form t) × ReadsNothing before now × StartsNothing before now

@@ -1,5 +1,5 @@
 -- What the command `run` does with a network, at each of its answers.
-use Rattle.std.specs.Prelude.{◌≡◌, ℕ, ◌+◌, Bool, true, not, is_some, List, length, Option, None, Some, Result, Ok, Err}
+use Rattle.std.specs.Prelude.{◌≡◌, ℕ, ◌+◌, ◌⊎◌, Bool, true, not, is_some, List, length, Option, None, Some, Result, Ok, Err}
 use Rattle.ff_rec.specs.Counts.{more}
 use Rattle.ff_rec.specs.Lines.{Rec, text}
 use Rattle.ff_io.specs.Files.{Holdings, HoldsBytes, KeepsAll, KeepsOthers}
@@ -52,29 +52,39 @@ pub record HasStored (j : Job OpState) (threads : Bool) (rejects : Option (List 
   pub stored : Stored rejects report.kept before.told now.told
   pub work : threads ≡ true → RanByThreads j (records_of j (streams_of before now) ran.got) before now
 
--- the network ran, and then the file for the rejected records couldn't be written
-pub record HasLost (j : Job OpState) (rejects : Option (List ℕ)) (before now : Outside) (name : List ℕ) (count : ℕ) : Type 0 where
+-- the network ran, by threads where it was to, and then the file for the rejected records couldn't be written
+pub record HasLost (j : Job OpState) (threads : Bool) (rejects : Option (List ℕ)) (before now : Outside) (name : List ℕ) (count : ℕ) : Type 0 where
   pub ending : Ending
   pub ran : HasRun j (streams_of before now) ending
   pub reading : now.input_faults ≡ stop_count before.input_faults ending.stop
   pub rejected : count ≡ ending.report.rejected
   pub named : rejects ≡ Some name
   pub others : KeepsOthers before.told now.told name
+  pub work : threads ≡ true → RanByThreads j (records_of j (streams_of before now) ran.got) before now
+
+-- the network ran, by threads where it was to, and then memory ran out while the rejected records were stored
+pub record HasRunOut (j : Job OpState) (threads : Bool) (rejects : Option (List ℕ)) (before now : Outside) : Type 0 where
+  pub ending : Ending
+  pub ran : HasRun j (streams_of before now) ending
+  pub reading : now.input_faults ≡ stop_count before.input_faults ending.stop
+  pub kept : KeepsBut rejects before.told now.told
+  pub work : threads ≡ true → RanByThreads j (records_of j (streams_of before now) ran.got) before now
 
 -- how the run of a network ends
 abbrev pub Ran : Job OpState → Bool → Option (List ℕ) → Outside → Outside → Result ℕ RunCause → Type 0
 Ran j threads rejects before now (Ok n) = HasStored j threads rejects before now stop.End n
 Ran j threads rejects before now (Err (Read n)) = HasStored j threads rejects before now stop.Read n
 Ran j threads rejects before now (Err (Line fault n)) = HasStored j threads rejects before now (stop.Line fault) n
-Ran j threads rejects before now (Err (Rejects name n)) = HasLost j rejects before now name n
+Ran j threads rejects before now (Err (Rejects name n)) = HasLost j threads rejects before now name n
 Ran j threads rejects before now (Err Refused) =
-    IsUntouched (streams_of before now) × KeepsAll before.told now.told
+    (threads ≡ true) × IsUntouched (streams_of before now) × KeepsAll before.told now.told
 Ran j threads rejects before now (Err (Tasks m)) =
     (m ≡ j.tasks) × IsOverrun j (streams_of before now) × KeepsAll before.told now.told
 Ran j threads rejects before now (Err Write) =
     IsCutShort j (streams_of before now) halt.Write × KeepsAll before.told now.told
 Ran j threads rejects before now (Err NoMemory) =
-    IsCutShort j (streams_of before now) halt.NoMemory × KeepsBut rejects before.told now.told
+    (IsCutShort j (streams_of before now) halt.NoMemory × KeepsAll before.told now.told)
+    ⊎ HasRunOut j threads rejects before now
 
 -- how often the files had failed, the output, and starts were refused, after a run that ended so
 abbrev pub run_files : ℕ → RunCause → ℕ

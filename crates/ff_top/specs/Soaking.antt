@@ -1,5 +1,5 @@
 -- What the command `soak` does, at each of its answers.
-use Rattle.std.specs.Prelude.{◌≡◌, ℕ, ◌+◌, min, max, List, Option, Result, Ok, Err, IfOk, OnOk}
+use Rattle.std.specs.Prelude.{◌≡◌, ℕ, ◌+◌, min, max, List, Option, Result, Ok, Err, IfOk, IfErr, OnOk}
 use Rattle.std.specs.Io.KnownBytes.{Appends}
 use Rattle.ff_rec.specs.Counts.{more}
 use Rattle.ff_io.specs.Bytes.{AppendsPrefix}
@@ -47,11 +47,24 @@ pub record Threaded (n w started started_now handled handled_now : ℕ) : Type 0
   pub starts : RoseBy (units (soak_net (workers_within w))) started started_now
   pub worked : RoseBy (units (soak_net (workers_within w)) + records_within n) handled handled_now
 
--- the summary was written with this answer: all of it, or a prefix; no record is rejected
+-- what the output took of these bytes where a soak ended so: only a write that failed may leave a part of them
+abbrev pub LeavesPart : SoakCause → Option (List ℕ) → Option (List ℕ) → List ℕ → Type 0
+LeavesPart Refused before now bytes = now ≡ before
+LeavesPart Write before now bytes = AppendsPrefix before now bytes
+LeavesPart NoMemory before now bytes = now ≡ before
+
+-- the threads had done their work where the summary was written, or its write failed
+abbrev pub WasThreaded : ℕ → ℕ → ℕ → ℕ → ℕ → ℕ → Result ℕ SoakCause → Type 0
+WasThreaded n w started started_now handled handled_now (Ok k) = Threaded n w started started_now handled handled_now
+WasThreaded n w started started_now handled handled_now (Err Write) = Threaded n w started started_now handled handled_now
+WasThreaded n w started started_now handled handled_now (Err Refused) = Unit {0}
+WasThreaded n w started started_now handled handled_now (Err NoMemory) = Unit {0}
+
+-- the summary was written with this answer: all of it, a part or nothing; no record is rejected
 pub record Soaks (n : ℕ) (before now : Option (List ℕ)) (faults faults_now refused refused_now : ℕ) (answer : Result ℕ SoakCause) : Type 0 where
   pub none : IfOk answer (λ k. k ≡ 0)
   pub all : OnOk answer (Appends before now (soaked n))
-  pub prefix : AppendsPrefix before now (soaked n)
+  pub part : IfErr answer (λ cause. LeavesPart cause before now (soaked n))
   pub counts : faults_now ≡ count_by soak_output faults answer
   pub starts : refused_now ≡ count_by soak_refused refused answer
 
@@ -59,4 +72,6 @@ pub record Soaks (n : ℕ) (before now : Option (List ℕ)) (faults faults_now r
 abbrev pub Soaked : ℕ → ℕ → Outside → Outside → Result ℕ SoakCause → Type 0
 Soaked n w before now (Ok k) =
     (k ≡ 0) × Appends before.taken now.taken (soaked n) × Threaded n w before.starts now.starts before.worked now.worked × ReadsNothing before now
-Soaked n w before now (Err cause) = AppendsPrefix before.taken now.taken (soaked n) × ReadsNothing before now
+Soaked n w before now (Err cause) =
+    LeavesPart cause before.taken now.taken (soaked n)
+    × WasThreaded n w before.starts now.starts before.worked now.worked (Err cause) × ReadsNothing before now

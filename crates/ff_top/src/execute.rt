@@ -1,9 +1,10 @@
 // From words to what they do.
-ghost use Rattle.std.specs.Prelude.{◌≡◌};
+ghost use Rattle.std.specs.Prelude.{◌≡◌, None, Some, Err, IfErr};
 ghost use Rattle.ff_top.specs.Commands.{PrintDone, RunDone, SoakDone};
-ghost use Rattle.ff_top.specs.Endings.{Comes, Counts};
+ghost use Rattle.ff_top.specs.Endings.{Comes, Counts, ReadsNone};
 ghost use Rattle.ff_top.specs.Working.{Handled, Worked};
 ghost use Rattle.ff_words.specs.Parsed.{texts};
+ghost use Rattle.ff_words.specs.Words.{command};
 
 use crate::devices::{Devices, Seen};
 use crate::fault::Fault;
@@ -37,6 +38,7 @@ pub fn execute<
         Comes (texts words.now) (seen devices.old) (seen devices.new) result }
     ensures counts { let seen = ⟦<Devices<F, I, O, E, S> as Seen>⟧.outside in
         Counts (seen devices.old) (seen devices.new) result }
+    ensures input { ReadsNone (command (texts words.now)) result → devices.new.input ≡ devices.old.input }
     ensures err { devices.new.err ≡ devices.old.err }
 {
     match read_command(alloc, words) {
@@ -58,6 +60,7 @@ fn work<
         Worked job (seen devices.old) (seen devices.new) result }
     ensures counts { let seen = ⟦<Devices<F, I, O, E, S> as Seen>⟧.outside in
         Counts (seen devices.old) (seen devices.new) result }
+    ensures input { ReadsNone (Some job) result → devices.new.input ≡ devices.old.input }
     ensures err { devices.new.err ≡ devices.old.err }
 {
     match job {
@@ -109,6 +112,7 @@ fn run_given<
         (seen devices.old) (seen devices.new) result }
     ensures counts { let seen = ⟦<Devices<F, I, O, E, S> as Seen>⟧.outside in
         Counts (seen devices.old) (seen devices.new) result }
+    ensures input { IfErr result (λ fault. ReadsNone None (Err fault) → devices.new.input ≡ devices.old.input) }
     ensures err { devices.new.err ≡ devices.old.err }
 {
     match read_given(alloc, &mut devices.files, given) {
@@ -131,6 +135,7 @@ fn print_given<F: Files, I: Source, O: Sink, E: Sink, S: Refusals>(
         Handled given (PrintDone form) (seen devices.old) (seen devices.new) result }
     ensures counts { let seen = ⟦<Devices<F, I, O, E, S> as Seen>⟧.outside in
         Counts (seen devices.old) (seen devices.new) result }
+    ensures input { devices.new.input ≡ devices.old.input }
     ensures err { devices.new.err ≡ devices.old.err }
 {
     match read_given(alloc, &mut devices.files, given) {
@@ -162,6 +167,7 @@ fn run_soak<
         SoakDone n workers (seen devices.old) (seen devices.new) result }
     ensures counts { let seen = ⟦<Devices<F, I, O, E, S> as Seen>⟧.outside in
         Counts (seen devices.old) (seen devices.new) result }
+    ensures input { devices.new.input ≡ devices.old.input }
     ensures err { devices.new.err ≡ devices.old.err }
 {
     let Devices { out, spawner, .. } = devices;

@@ -1,5 +1,6 @@
 // The call that `main` makes.
-ghost use Rattle.std.specs.Prelude.{◌≡◌, ◌⊎◌, ℕ, [], ◌∷◌, None, Ok, Err, Contains};
+ghost use Rattle.std.specs.Prelude.{◌≡◌, ◌⊎◌, ℕ, [], ◌∷◌, None, Ok, Err, false, Contains, IsSomeAnd};
+ghost use Rattle.ff_top.specs.Commands.{reads_input};
 ghost use Rattle.ff_top.specs.Endings.{Did, DidSoak, Ended, IsComplete};
 ghost use Rattle.ff_top.specs.Messages.{memory_message, status_of, Tells};
 ghost use Rattle.ff_words.specs.Parsed.{texts};
@@ -48,6 +49,11 @@ pub fn ffrun<
     // 1 exactly where the words aren't a command, unless memory ran out.
     ensures usage { result ≡ 1 → command (texts words.now) ≡ None }
     ensures no_command { command (texts words.now) ≡ None → (result ≡ 1) ⊎ (result ≡ 6) }
+
+    // At 1 and 2, and by a command that doesn't read the input, nothing is done with it: it is the very same behind the call.
+    ensures unread { (result ≡ 1) ⊎ (result ≡ 2) → devices.new.input ≡ devices.old.input }
+    ensures unread_by { IsSomeAnd (command (texts words.now)) (λ job. reads_input job ≡ false)
+        → devices.new.input ≡ devices.old.input }
 
     // Where no count of faults or refused starts rose, and unless memory ran out: an accepted command over an input within the limits is
     // done, over another input a limit is told, a text that isn't accepted is refused, and a soak is done.

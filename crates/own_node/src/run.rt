@@ -1,7 +1,11 @@
 // The network by threads, over any source and any sink.
-ghost use Rattle.std.specs.Prelude.{◌≡◌, false};
-ghost use Rattle.ff_engine.specs.Runs.{NetRan};
+ghost use Rattle.std.specs.Prelude.{◌≡◌, ◌+◌, List, length, false, IfOk, OnOk};
+ghost use Rattle.ff_engine.specs.Runs.{NetRan, CountsNetInput, refused_count, net_output_count};
+ghost use Rattle.ff_net.specs.Counts.{units};
 ghost use Rattle.ff_net.specs.Tree.{tree_of};
+ghost use Rattle.ff_rec.specs.Lines.{Rec};
+ghost use Rattle.ff_spawn.specs.Counts.{RoseBy};
+ghost use Rattle.ff_stream.specs.Endings.{Told};
 ghost use Rattle.ff_stream.specs.Jobs.{job};
 ghost use Rattle.ff_stream.specs.Streams.{streams};
 ghost use Rattle.own_node.specs.Network.{own_net};
@@ -32,8 +36,17 @@ pub fn widest_line<
 ) -> Result<Ending, NetFault>
     requires net { tree_of checked.now.net ≡ own_net }
     requires version { checked.now.version ≡ Version.Two }
-    ensures { NetRan (job own_node own_net Version.Two 0 false)
+    ensures run { NetRan (job own_node own_net Version.Two 0 false)
         (streams I.left I.ended I.faults O.taken source.old source.new sink.old sink.new) result }
+    ensures work { IfOk result (λ ending. Told (job own_node own_net Version.Two 0 false)
+        (streams I.left I.ended I.faults O.taken source.old source.new sink.old sink.new)
+        (λ (xs : List Rec). RoseBy (units own_net + length xs)
+        (S.worked spawner.old) (S.worked spawner.new)) ending) }
+    ensures starts { OnOk result (RoseBy (units own_net)
+        (S.starts spawner.old) (S.starts spawner.new)) }
+    ensures refusals { S.refused spawner.new ≡ refused_count (S.refused spawner.old) result }
+    ensures input_faults { CountsNetInput (I.faults source.old) (I.faults source.new) result }
+    ensures output_faults { O.faults sink.new ≡ net_output_count (O.faults sink.old) result }
 {
     // No wrap stands in it, and so it has no tasks.
     run_net(

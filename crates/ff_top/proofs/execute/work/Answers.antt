@@ -1,6 +1,7 @@
 -- The command is given a network.
 use Rattle.std.proofs.Common.{sym, ap, subst, inl, inr}
-use Rattle.ff_top.specs.Commands.{DoneWith, given_to}
+use Rattle.ff_top.proofs.Executed.{ReadsNone-run}
+use Rattle.ff_top.specs.Commands.{DoneWith, given_to, reads_input}
 use Rattle.ff_top.specs.Outside.{outside_of}
 use Rattle.ff_top.specs.Working.{Handled}
 use Rattle.ff_words.specs.declared.command.Command.{Command}
@@ -48,3 +49,7 @@ returns-in-Soak-clause-worked g c = inr (inr (record {
   is = c.in-Soak.is;
   done = c.run_soak.ensures.done;
 }))
+
+-- a run reads the input, unless its text is at fault
+pub returns-in-Run-clause-input : goal.returns-in-Run-clause-input
+returns-in-Run-clause-input g c none = ReadsNone-run c.args.job c.run_given.result (ap reads_input c.in-Run.is) none c.run_given.ensures.input

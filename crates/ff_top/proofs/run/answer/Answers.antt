@@ -1,4 +1,6 @@
 -- The network ran by threads.
+use Rattle.std.proofs.Common.{ap}
+use Rattle.std.specs.Prelude.{not}
 use Rattle.ff_net.specs.Tree.{tree_of}
 use Rattle.ff_top.proofs.Answering.{Answered-job, Answered-threads}
 use Rattle.ff_top.specs.Outside.{outside_of}
@@ -17,4 +19,4 @@ returns-clause-ran g c =
     let tasks = c.args.order.now.tasks in
     let threads = by_threads c.args.order.now.one in
     Answered-job t v keep tasks c.args.order.now.rejects threads before now r.result c.requires c.is_some-keep.ensures
-    (Answered-threads t v keep tasks threads before now r.result r.ensures.run r.ensures.work r.ensures.starts)
+    (Answered-threads t v keep tasks threads before now r.result r.ensures.run r.ensures.work r.ensures.starts (ap not c.if-order.false))

@@ -15,7 +15,7 @@ returns-in-Ok-clause-soaks g c =
     record {
       none = refl;
       all = subst (λ b. Appends (g.O.Sink.taken c.args.out.now) (g.O.Sink.taken c.write_all.new.sink) b) wrote c.in-Ok.ensures.all;
-      prefix = subst (λ b. AppendsPrefix (g.O.Sink.taken c.args.out.now) (g.O.Sink.taken c.write_all.new.sink) b) wrote c.in-Ok.ensures.prefix;
+      part = tt;
       counts = c.in-Ok.ensures.counts;
       starts = c.in_ok-summary.ensures.refusals;
     }
@@ -28,7 +28,7 @@ returns-clause-soaks g c =
     record {
       none = tt;
       all = tt;
-      prefix = subst (λ b. AppendsPrefix (g.O.Sink.taken c.args.out.now) (g.O.Sink.taken c.write_all.new.sink) b) wrote c.in-Err.ensures.prefix;
+      part = subst (λ b. AppendsPrefix (g.O.Sink.taken c.args.out.now) (g.O.Sink.taken c.write_all.new.sink) b) wrote c.in-Err.ensures.prefix;
       counts = c.in-Err.ensures.counts;
       starts = c.in_ok-summary.ensures.refusals;
     }

@@ -1,6 +1,6 @@
 -- What is answered, by how the command ended.
 use Rattle.std.proofs.Common.{subst}
-use Rattle.ff_top.proofs.Calls.{complete, usage, no_command, done, Contains-status}
+use Rattle.ff_top.proofs.Calls.{complete, usage, no_command, done, Contains-status, ReadsNone-early, ReadsNone-other}
 use Rattle.ff_top.specs.Messages.{said, Tells}
 use Rattle.ff_words.specs.Parsed.{texts}
 use Rattle.ff_top.proofs.top.ffrun.Goals as goal
@@ -38,3 +38,13 @@ returns-clause-complete g c =
     let e = c.execute-ending in
     complete c.reading_is_cutting.ensures c.networks_spelled_alike_are_the_same.ensures (texts c.args.words.now) _ _
     c.status_of.result e.result c.status_of.ensures e.ensures.comes e.ensures.counts
+
+pub returns-clause-unread : goal.returns-clause-unread
+returns-clause-unread g c early =
+    let e = c.execute-ending in
+    e.ensures.input (ReadsNone-early c.status_of.result e.result _ c.status_of.ensures early)
+
+pub returns-clause-unread_by : goal.returns-clause-unread_by
+returns-clause-unread_by g c other =
+    let e = c.execute-ending in
+    e.ensures.input (ReadsNone-other (texts c.args.words.now) _ _ e.result e.ensures.comes other)
