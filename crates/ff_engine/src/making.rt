@@ -11,9 +11,9 @@ use crate::NetJob;
 use crate::bells::Bells;
 use crate::board::Board;
 use crate::slots::take_ends;
-use ff_plan::UnitRow;
+use ff_plan::{UnitKind, UnitRow};
 use ff_rec::NoMemory;
-use ff_ring::Pause;
+use ff_ring::{Pause, Spins};
 use ff_unit::Unit;
 use std::alloc::Global;
 use std::sync::Arc;
@@ -46,10 +46,19 @@ pub(crate) fn make_jobs<U: Unit, R: Clone + Drop>(
         let Some(row) = rows.next() else {
             unreachable!()
         };
-        let pause = Pause::new(Arc::try_clone(bells.unit(jobs.len()))?);
+        let bell = Arc::try_clone(bells.unit(jobs.len()))?;
+        let pause = Pause::new(bell, spins_of(row.kind));
         jobs.push(make_job(alloc, unit, row, pause, rt, board)?)?;
     }
     Ok(jobs)
+}
+
+// How long the thread of a unit spins. A worker of a wrap waits for its next task, and the master for the answers.
+fn spins_of(kind: UnitKind) -> Spins {
+    match kind {
+        UnitKind::Master | UnitKind::Worker => Spins::Many,
+        _ => Spins::Few,
+    }
 }
 
 // A job of this unit with the ends of the edges that its row names.

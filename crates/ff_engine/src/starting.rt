@@ -18,7 +18,7 @@ use ff_net::Checked;
 use ff_node::Node;
 use ff_plan::{Queue, plan};
 use ff_rec::NoMemory;
-use ff_ring::Pause;
+use ff_ring::{Pause, Spins};
 use ff_spawn::{Denial, RunningJobs, Spawner};
 use ff_steps::{NetUnit, make_units};
 use ff_unit::Unit;
@@ -62,7 +62,7 @@ pub(crate) fn prepare<N: Node + Send + 'static, R: Wait + Clone + Drop + Send + 
             alloc,
             first,
             last,
-            Pause::new(own),
+            Pause::new(own, Spins::Few),
             others,
             checked.has_wrap(),
         ),

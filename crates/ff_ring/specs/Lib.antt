@@ -6,3 +6,4 @@ pub mod Outlets
 pub mod Pauses
 pub mod Ringers
 pub mod Sizes
+pub mod SpinCounts

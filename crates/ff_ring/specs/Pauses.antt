@@ -2,6 +2,10 @@
 use Rattle.std.specs.Prelude.{◌≡◌, ◌*◌, ℕ, Bool, false, not, nat_le, if◌then◌else◌}
 use Rattle.ff_ring.specs.declared.pause.Pause.{Pause}
 
+-- how many spins its longest pause has
+abbrev pub most_of : Pause → ℕ
+most_of p = p.most
+
 -- how many spins the next pause has
 abbrev pub spins_of : Pause → ℕ
 spins_of p = p.spins
@@ -24,7 +28,7 @@ IsFresh p = (spins_of p ≡ 1) × (lies_down p ≡ false) × (millis_of p ≡ 2)
 
 -- whether the next pause is spins
 abbrev pub spins_next : Pause → Bool
-spins_next p = nat_le (spins_of p) 64
+spins_next p = nat_le (spins_of p) (most_of p)
 
 -- whether the thread lies down in the next pause
 abbrev pub lies_next : Pause → Bool

@@ -12,6 +12,7 @@ mod ring_in;
 mod ring_out;
 mod ringer;
 mod settling;
+mod spins;
 
 pub use bell::Bell;
 pub use making::ring;
@@ -19,6 +20,7 @@ pub use pause::Pause;
 pub use ring_in::RingIn;
 pub use ring_out::RingOut;
 pub use settling::settle;
+pub use spins::Spins;
 
 #[cfg(test)]
 mod tests;

@@ -1,14 +1,11 @@
 // How a thread waits that found nothing to do.
 ghost use Rattle.std.specs.Prelude.{◌≤◌};
 
-use crate::Bell;
+use crate::{Bell, Spins};
 use std::alloc::Global;
 use std::hint;
 use std::sync::{Arc, Wait};
 use std::time::Duration;
-
-// The most spins between two tries. More help small rings on a quiet machine, and harm on a busy one.
-const MOST_SPINS: u32 = 64;
 
 // How long a thread is parked at first, in milliseconds, and at most. Bells wake it; the time is a safety net.
 const FIRST_PARK: u64 = 2;
@@ -20,14 +17,15 @@ const FIRST_DOZE: u64 = 100;
 
 const LONGEST_DOZE: u64 = 2000;
 
-/// The pauses of a thread between its tries, while it finds nothing to do: 1, 2, 4, .. 64 spins, which cost no more
+/// The pauses of a thread between its tries, while it finds nothing to do: 1, 2, 4, .. spins, which cost no more
 /// than a message's way, and then parks of 2, 4, .. 50 milliseconds, which the other ends of its rings cut short. Before
 /// each park it lies down and tries once more, so that no bell is missed. It never yields its time slice, since a busy
 /// machine gives the whole slice away.
 #[derive(Drop)]
 pub struct Pause {
     bell: Arc<Bell, Global>,
-    // How many spins the next pause has.
+    // How many spins the longest has, and the next one.
+    most: u32,
     spins: u32,
     // Whether it lay down since something was done and since it last slept.
     lies: bool,
@@ -35,21 +33,25 @@ pub struct Pause {
     millis: u64,
     // How long the next doze may last, in microseconds.
     micros: u64,
-    ghost few_spins: { spins ≤ 128 },
+    ghost few: { most ≤ 1024 },
+    ghost few_spins: { spins ≤ 2048 },
     ghost short: { millis ≤ 50 },
     ghost shorter: { micros ≤ 2000 },
 }
 
 impl Pause {
     ghost use Rattle.std.specs.Prelude.{◌≡◌, ◌*◌, min, not, true, false, if◌then◌else◌};
-    ghost use Rattle.ff_ring.specs.Pauses.{IsFresh, spins_of, lies_down, millis_of, micros_of, spins_next, lies_next, sleeps_next, spins_behind, lies_behind};
+    ghost use Rattle.ff_ring.specs.SpinCounts.{most_spins};
+    ghost use Rattle.ff_ring.specs.Pauses.{IsFresh, most_of, spins_of, lies_down, millis_of, micros_of, spins_next, lies_next, sleeps_next, spins_behind, lies_behind};
 
     /// The pauses of the thread with this bell. The other ends of its rings are given it too.
-    pub fn new(bell: Arc<Bell, Global>) -> Pause
-        ensures { IsFresh result }
+    pub fn new(bell: Arc<Bell, Global>, spins: Spins) -> Pause
+        ensures fresh { IsFresh result }
+        ensures most { most_of result ≡ most_spins spins }
     {
         Pause {
             bell,
+            most: spins.most(),
             spins: 1,
             lies: false,
             millis: FIRST_PARK,
@@ -59,7 +61,8 @@ impl Pause {
 
     /// Something was done: the next pause is short again.
     pub fn reset(&mut self)
-        ensures { IsFresh self.new }
+        ensures fresh { IsFresh self.new }
+        ensures most { most_of self.new ≡ most_of self.old }
     {
         if self.lies {
             self.bell.works();
@@ -74,6 +77,7 @@ impl Pause {
     /// wait for it, and the pause behind that try is a park.
     pub fn rest<R: Wait>(&mut self, rt: &R) -> bool
         ensures answer { result ≡ lies_next self.old }
+        ensures most { most_of self.new ≡ most_of self.old }
         ensures spins { spins_of self.new ≡ spins_behind self.old }
         ensures lies { lies_down self.new ≡ lies_behind self.old }
         ensures millis { millis_of self.new
@@ -92,6 +96,7 @@ impl Pause {
 
     /// A pause as where no bell need ring, with sleeps of 100, 200, .. 2,000 microseconds at most.
     pub fn watch<R: Wait>(&mut self, rt: &R)
+        ensures most { most_of self.new ≡ most_of self.old }
         ensures spins { spins_of self.new ≡ spins_behind self.old }
         ensures lies { lies_down self.new ≡ lies_behind self.old }
         ensures millis { millis_of self.new ≡ millis_of self.old }
@@ -107,12 +112,13 @@ impl Pause {
     // Spins, twice as long as the time before, and answers whether it did.
     fn spin(&mut self) -> bool
         ensures answer { result ≡ spins_next self.old }
+        ensures most { most_of self.new ≡ most_of self.old }
         ensures spins { spins_of self.new ≡ spins_behind self.old }
         ensures lies { lies_down self.new ≡ lies_down self.old }
         ensures millis { millis_of self.new ≡ millis_of self.old }
         ensures micros { micros_of self.new ≡ micros_of self.old }
     {
-        if self.spins > MOST_SPINS {
+        if self.spins > self.most {
             return false;
         }
         for _ in 0..self.spins {
@@ -125,6 +131,7 @@ impl Pause {
     // Lies down, and answers whether it did.
     fn lie_down(&mut self) -> bool
         ensures answer { result ≡ not (lies_down self.old) }
+        ensures most { most_of self.new ≡ most_of self.old }
         ensures spins { spins_of self.new ≡ spins_of self.old }
         ensures lies { lies_down self.new ≡ true }
         ensures millis { millis_of self.new ≡ millis_of self.old }
@@ -140,6 +147,7 @@ impl Pause {
 
     // Parks until the bell rings or the time is over. The next park may last longer.
     fn park<R: Wait>(&mut self, rt: &R)
+        ensures most { most_of self.new ≡ most_of self.old }
         ensures spins { spins_of self.new ≡ spins_of self.old }
         ensures lies { lies_down self.new ≡ false }
         ensures millis { millis_of self.new ≡ min 50 (2 * millis_of self.old) }
@@ -152,6 +160,7 @@ impl Pause {
 
     // Parks as where no bell need ring.
     fn doze<R: Wait>(&mut self, rt: &R)
+        ensures most { most_of self.new ≡ most_of self.old }
         ensures spins { spins_of self.new ≡ spins_of self.old }
         ensures lies { lies_down self.new ≡ false }
         ensures millis { millis_of self.new ≡ millis_of self.old }

@@ -3,7 +3,7 @@ ghost use Rattle.std.specs.Prelude.{◌≡◌, ◌≤◌, [], IfOk};
 ghost use Rattle.ff_rec.specs.Streams.{IsOpen};
 ghost use Rattle.ff_ring.specs.Ends.{put_of, written_ring, read_ring};
 
-use crate::{Bell, Pause, RingIn, RingOut, ring, settle};
+use crate::{Bell, Pause, RingIn, RingOut, Spins, ring, settle};
 use ff_port::{Inbox, Outbox, Put};
 use ff_rec::{Msg, NoMemory};
 use std::alloc::Global;
@@ -167,26 +167,28 @@ fn settling_tells_what_is_left(rt: HostRuntime) -> Result<(), Fail> {
     Ok(())
 }
 
-// Seven pauses with spins, one more try, and then a park, which ends by itself. Nobody sees the thread rest while it isn't
-// parked.
+// Seven or eleven pauses with spins, one more try, and then a park, which ends by itself. Nobody sees the thread rest while
+// it isn't parked.
 #[test]
 fn pauses_spin_and_park(rt: HostRuntime) -> Result<(), Fail> {
-    let bell = Arc::new(rt.alloc(), Bell::new())?;
-    let mut pause = Pause::new(Arc::try_clone(&bell)?);
-    for _ in 0..2 {
-        for _ in 0..7 {
-            assert!(rt; !pause.rest(&rt));
+    for (spins, count) in [(Spins::Few, 7), (Spins::Many, 11)] {
+        let bell = Arc::new(rt.alloc(), Bell::new())?;
+        let mut pause = Pause::new(Arc::try_clone(&bell)?, spins);
+        for _ in 0..2 {
+            for _ in 0..count {
+                assert!(rt; !pause.rest(&rt));
+            }
+            for _ in 0..6 {
+                // It lies down, and then it parks; and the other way to pause does so, too.
+                assert!(rt; pause.rest(&rt));
+                assert!(rt; !bell.notes_rest());
+                assert!(rt; !pause.rest(&rt));
+                assert!(rt; !bell.notes_rest());
+                pause.watch(&rt);
+                pause.watch(&rt);
+            }
+            pause.reset();
         }
-        for _ in 0..6 {
-            // It lies down, and then it parks; and the other way to pause does so, too.
-            assert!(rt; pause.rest(&rt));
-            assert!(rt; !bell.notes_rest());
-            assert!(rt; !pause.rest(&rt));
-            assert!(rt; !bell.notes_rest());
-            pause.watch(&rt);
-            pause.watch(&rt);
-        }
-        pause.reset();
     }
     Ok(())
 }

@@ -5,7 +5,7 @@ ghost use Rattle.ff_rec.specs.Streams.{IsOpen};
 ghost use Rattle.ff_ring.specs.Ends.{put_of, written_ring, read_ring};
 
 use super::puts;
-use crate::{Bell, Pause, RingIn, RingOut, ring, settle};
+use crate::{Bell, Pause, RingIn, RingOut, Spins, ring, settle};
 use ff_port::{Inbox, Outbox, Put};
 use ff_rec::{Msg, NoMemory};
 use std::alloc::Global;
@@ -186,7 +186,7 @@ fn a_rest_is_seen(rt: HostRuntime) -> Result<(), Fail> {
     for _ in 0..200 {
         let writer = Arc::new(alloc, Bell::new())?;
         let reader = Arc::new(alloc, Bell::new())?;
-        let pause = Pause::new(Arc::try_clone(&reader)?);
+        let pause = Pause::new(Arc::try_clone(&reader)?, Spins::Few);
         let (out, inn) = ring(alloc, 4, writer, Arc::try_clone(&reader)?)?;
         let answers = thread::join(
             rt,

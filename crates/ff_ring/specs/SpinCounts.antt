@@ -1,0 +1,9 @@
+-- How many spins there are at most between two tries.
+use Rattle.std.specs.Prelude.{ℕ}
+use Rattle.ff_ring.specs.declared.spins.Spins.{Spins}
+use Rattle.ff_ring.specs.declared.spins.Spins.TheVariants.{Few, Many}
+
+-- the most spins of a thread that spins so
+abbrev pub most_spins : Spins → ℕ
+most_spins Few = 64
+most_spins Many = 1024

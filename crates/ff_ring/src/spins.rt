@@ -1,0 +1,24 @@
+// How long threads spin.
+ghost use Rattle.std.specs.Prelude.{◌≡◌};
+ghost use Rattle.ff_ring.specs.SpinCounts.{most_spins};
+
+/// How long a thread spins before it lies down.
+#[derive(Clone, Copy, Debug, PartialEq, Eq, Hash)]
+pub enum Spins {
+    /// At most 64 between two tries: many messages come at once, and more spins would take the processor from those who send them.
+    Few,
+    /// At most 1024: the thread waits for the answer to what it has just handed over, which comes sooner than a sleep ends.
+    Many,
+}
+
+impl Spins {
+    /// The most spins between two tries.
+    pub(crate) fn most(self) -> u32
+        ensures { result ≡ most_spins self }
+    {
+        match self {
+            Spins::Few => 64,
+            Spins::Many => 1024,
+        }
+    }
+}
