@@ -57,6 +57,7 @@ impl FieldOp {
     }
 
     // Sends what the row sends before the record itself, and changes the record where it is sent in another form.
+    #[inline(always)]
     fn decide(&self, r: &mut Record, out: &mut Sends) -> Result<Fate, NoMemory>
         ensures { IfOk result (λ fate. settled fate out.new r.new
             ≡ answered out.old (field_answer self.now r.old) r.old) }

@@ -125,6 +125,8 @@ impl<N: Node> Unit for NetUnit<N> {
 
     ghost does = { net_does N.does };
 
+    // Always inline: a thread of its own steps such a unit and no other.
+    #[inline(always)]
     fn step_once<P: Ports<Record>>(&mut self, ports: &mut P) -> Step {
         match &mut self.part {
             Part::Stage(stage) => stage.step_once(ports),

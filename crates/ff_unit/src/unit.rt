@@ -50,6 +50,7 @@ pub trait Unit: Drop {
 
     /// One step: it puts the first message that it holds, or else takes one, or flushes its outs and ends. How it ends is free
     /// where memory is short; by Abort it ends only where it took one or `abort` was called.
+    #[inline(always)]
     final fn step<P: Ports<Record>>(&mut self, ports: &mut P) -> Step
         requires { Ran does self.old (P.gots ports.old) (P.puts ports.old) }
         ensures one { One does self.old (P.gots ports.old) (P.puts ports.old)

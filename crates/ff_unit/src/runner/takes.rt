@@ -75,7 +75,12 @@ impl<N: Node> NodeRunner<N> {
     {
         let keeps = self.sends.keeps();
         match node_step(&mut self.node, r, &mut self.sends) {
-            Ok(Next::GoOn) => self.back = behind,
+            Ok(Next::GoOn) => {
+                // Where there is none, nothing is held there already, and what isn't written costs nothing.
+                if let Some(m) = behind {
+                    self.back = Some(m);
+                }
+            }
             Ok(Next::Eos) => {
                 self.back = Some(Msg::Eos);
                 self.mode = Mode::Shut;
