@@ -1,5 +1,5 @@
 // A network by threads.
-ghost use Rattle.std.specs.Prelude.{◌≡◌, ◌≤◌, ◌+◌, List, length, IfOk, OnOk};
+ghost use Rattle.std.specs.Prelude.{◌≡◌, ◌≤◌, ◌+◌, List, length, Err, IfOk, OnOk};
 ghost use Rattle.ff_rec.specs.Lines.{Rec};
 ghost use Rattle.ff_net.specs.Counts.{units};
 ghost use Rattle.ff_net.specs.Tree.{tree_of};
@@ -57,6 +57,8 @@ pub fn run_net<
     ensures refusals { S.refused spawner.new ≡ refused_count (S.refused spawner.old) result }
     ensures input_faults { CountsNetInput (I.faults source.old) (I.faults source.new) result }
     ensures output_faults { O.faults sink.new ≡ net_output_count (O.faults sink.old) result }
+    ensures unread { result ≡ Err NetFault.Refused → source.new ≡ source.old }
+    ensures unwritten { result ≡ Err NetFault.Refused → sink.new ≡ sink.old }
 {
     plans_keep_laws(checked);
     let Ok(prepared) = prepare(rt, alloc, checked, cap, delivery, limit, keep) else {

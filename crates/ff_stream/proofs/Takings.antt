@@ -54,7 +54,7 @@ some-limit (Some other) passed is = cc
 Stopped-limit : (stop : Stop) (found : Option LineFault) (ended : Bool) (left : Option (List ℕ)) → StopsAt stop (option_map Passed found) ended left → Stopped stop found ended left
 Stopped-limit End found ended left stops = (none-limit found stops.0, stops.1, stops.2)
 Stopped-limit Read found ended left stops = (none-limit found stops.0, stops.1)
-Stopped-limit (Line passed) found ended left stops = some-limit found passed stops.0
+Stopped-limit (Line passed) found ended left stops = (some-limit found passed stops.0, stops.1)
 
 Stopped-read : ReadingLaw → (v : Version) (s : Reading) (got : List ℕ) (stop : Stop) (ended : Bool) (left : Option (List ℕ)) → s ≡ after (start v) got → StopsAt stop s.fault ended left
     → Stopped stop (limit_by v got) ended left

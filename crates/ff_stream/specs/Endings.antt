@@ -29,11 +29,11 @@ halted NoMemory = NoMemoryFault
 abbrev pub records_of : {N : Type 0} → Job N → Streams → List ℕ → List Rec
 records_of j s got = seen_by j.version got s.ended
 
--- why no more was read: the input ended, a read failed, or a limit of the version was passed
+-- why no more was read: the input ended, or, before its end was told, a read failed or a limit of the version was passed
 abbrev pub Stopped : Stop → Option LineFault → Bool → Option (List ℕ) → Type 0
 Stopped End found ended left = (found ≡ None) × (ended ≡ true) × IsAtEnd left
 Stopped Read found ended left = (found ≡ None) × (ended ≡ false)
-Stopped (Line fault) found ended left = found ≡ Some fault
+Stopped (Line fault) found ended left = (found ≡ Some fault) × (ended ≡ false)
 
 -- a count of the input's faults after this stop: one more where a read failed, and else the same
 abbrev pub stop_count : ℕ → Stop → ℕ

@@ -1,5 +1,5 @@
 // From what is sent to what a sink takes.
-ghost use Rattle.std.specs.Prelude.{◌≡◌, ◌++◌, [], IfErr, OnOk, OnErr};
+ghost use Rattle.std.specs.Prelude.{◌≡◌, ◌<◌, ◌++◌, [], length, IfErr, OnOk, OnErr};
 ghost use Rattle.ff_io.specs.Faults.{count_after};
 ghost use Rattle.ff_rec.specs.Lines.{line_of, text};
 ghost use Rattle.ff_stream.specs.Texts.{Writes, WritesSome};
@@ -71,6 +71,7 @@ impl Text {
     #[inline(always)]
     pub fn write_full<O: Sink>(&mut self, sink: &mut O) -> Result<(), Failed>
         ensures all { OnOk result (Writes self.old self.new (O.taken sink.old) (O.taken sink.new)) }
+        ensures little { OnOk result (length self.new < 65536) }
         ensures some { OnErr result (WritesSome self.old (O.taken sink.old) (O.taken sink.new)) }
         ensures counts { O.faults sink.new ≡ count_after (O.faults sink.old) result }
     {

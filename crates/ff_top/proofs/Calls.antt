@@ -85,7 +85,7 @@ module _ (law : ReadingLaw) (one : SpellingIsOfOneNet) (words : List (List ℕ))
       over (subst (λ xs. Fine op_node tasks t xs) (sym (at_end got bytes now.ended same stops.1)) within.1)
   Overrun-stopped t tasks got bytes stop.Read quiet reads over stops counts is within = quiet.input (Rose-more before.input_faults now.input_faults counts)
   Overrun-stopped t tasks got bytes (stop.Line f) quiet reads over stops counts is within =
-      None-Some (limit_by version bytes) f within.0 (limited law before.left now.left got bytes f reads stops is)
+      None-Some (limit_by version bytes) f within.0 (limited law before.left now.left got bytes f reads stops.0 is)
 
   Overrun-within : (t : Tree OpState) (tasks : ℕ) (rejects : Option (List ℕ)) → IsQuiet before now → IsOverrun (run_job t tasks rejects) (streams_of before now)
       → IsSomeAnd before.left (λ bytes. (limit_by version bytes ≡ None) × Fine op_node tasks t (seen_by version bytes true)) → ⊥
@@ -103,7 +103,7 @@ module _ (law : ReadingLaw) (one : SpellingIsOfOneNet) (words : List (List ℕ))
   done-line : (job : Command) (t : Tree OpState) (f : LineFault) (n : ℕ) → IsInLimits job t before.left → DoneWith job t before now (Err (Run (run.Line f n))) → ⊥
   done-line (of.Run given cap queue tasks one rejects) t f n within d =
       let input = known before.left _ within in
-      None-Some (limit_by version input.0) f input.2.0 (limited law before.left now.left d.ran.got input.0 f d.ran.reads d.ran.stops input.1)
+      None-Some (limit_by version input.0) f input.2.0 (limited law before.left now.left d.ran.got input.0 f d.ran.reads d.ran.stops.0 input.1)
   done-line (of.Check given) t f n within d = d
   done-line (of.Plan given) t f n within d = d
   done-line _ t f n within d = d
@@ -262,17 +262,44 @@ module _ (words : List (List ℕ)) (before now : Outside) where
   ]
   no_command status (Err fault) is comes none = fault_no_command status fault is comes none
 
--- a fault with status 1 or 2 comes before the input is read
-pub ReadsNone-early : (status : ℕ) (answer : Result ℕ Fault) (job : Option Command) → status ≡ status_of answer → (status ≡ 1) ⊎ (status ≡ 2)
+-- statuses at which nothing was read
+abbrev IsEarly : ℕ → Type 0
+IsEarly status = (status ≡ 1) ⊎ ((status ≡ 2) ⊎ (status ≡ 5))
+
+not_early : (status k : ℕ) → status ≡ k → (k ≡ 0) ⊎ (((3 ≤ k) × (k ≤ 4)) ⊎ (6 ≤ k)) → IsEarly status → ⊥
+not_early status k is other (inl one) = elim other [
+  | inl none ↦ omega (arith, is, none, one)
+  | inr late ↦ elim late [
+    | inl mid ↦ omega (arith, is, mid.0, one)
+    | inr high ↦ omega (arith, is, high, one)
+  ]
+]
+not_early status k is other (inr (inl two)) = elim other [
+  | inl none ↦ omega (arith, is, none, two)
+  | inr late ↦ elim late [
+    | inl mid ↦ omega (arith, is, mid.0, two)
+    | inr high ↦ omega (arith, is, high, two)
+  ]
+]
+not_early status k is other (inr (inr five)) = elim other [
+  | inl none ↦ omega (arith, is, none, five)
+  | inr late ↦ elim late [
+    | inl mid ↦ omega (arith, is, mid.1, five)
+    | inr high ↦ omega (arith, is, high, five)
+  ]
+]
+
+-- a fault with status 1, 2 or 5 comes before the input is read
+pub ReadsNone-early : (status : ℕ) (answer : Result ℕ Fault) (job : Option Command) → status ≡ status_of answer → IsEarly status
     → ReadsNone job answer
-ReadsNone-early status (Ok n) job is early = elim early [
-  | inl one ↦ absurd (omega (arith, is, one))
-  | inr two ↦ absurd (omega (arith, is, two))
-]
-ReadsNone-early status (Err (Run cause)) job is early = elim early [
-  | inl one ↦ omega (arith, is, one, run_late cause)
-  | inr two ↦ omega (arith, is, two, run_late cause)
-]
+ReadsNone-early status (Ok n) job is early = absurd (not_early status 0 is (inl refl) early)
+ReadsNone-early status (Err (Run run.Refused)) job is early = tt
+ReadsNone-early status (Err (Run (run.Tasks m))) job is early = not_early status 3 is (inr (inl (omega arith, omega arith))) early
+ReadsNone-early status (Err (Run run.Write)) job is early = not_early status 4 is (inr (inl (omega arith, omega arith))) early
+ReadsNone-early status (Err (Run (run.Rejects name n))) job is early = not_early status 4 is (inr (inl (omega arith, omega arith))) early
+ReadsNone-early status (Err (Run (run.Read n))) job is early = not_early status 4 is (inr (inl (omega arith, omega arith))) early
+ReadsNone-early status (Err (Run (run.Line f n))) job is early = not_early status 3 is (inr (inl (omega arith, omega arith))) early
+ReadsNone-early status (Err (Run run.NoMemory)) job is early = not_early status 6 is (inr (inr (omega arith))) early
 ReadsNone-early status (Err (Words fault)) job is early = tt
 ReadsNone-early status (Err NotBuilt) job is early = tt
 ReadsNone-early status (Err (Given fault)) job is early = tt

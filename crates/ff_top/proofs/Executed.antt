@@ -99,12 +99,28 @@ module _ (j : Job OpState) (threads : Bool) (rejects : Option (List ℕ)) (befor
 pub ReadsNone-run : {P : Type 0} (job : Command) (answer : Result ℕ Fault) → reads_input job ≡ true → ReadsNone (Some job) answer
     → IfErr answer (λ fault. ReadsNone None (Err fault) → P) → P
 ReadsNone-run job (Ok n) is none early = let e : true ≡ false = sym is ∙ none in absurd (cc)
-ReadsNone-run job (Err (fault.Run cause)) is none early = absurd none
+ReadsNone-run job (Err (fault.Run Refused)) is none early = early tt
+ReadsNone-run job (Err (fault.Run (Tasks m))) is none early = absurd none
+ReadsNone-run job (Err (fault.Run Write)) is none early = absurd none
+ReadsNone-run job (Err (fault.Run (Rejects name n))) is none early = absurd none
+ReadsNone-run job (Err (fault.Run (Read n))) is none early = absurd none
+ReadsNone-run job (Err (fault.Run (Line passed n))) is none early = absurd none
+ReadsNone-run job (Err (fault.Run NoMemory)) is none early = absurd none
 ReadsNone-run job (Err (fault.Words f)) is none early = early tt
 ReadsNone-run job (Err fault.NotBuilt) is none early = early tt
 ReadsNone-run job (Err (fault.Given f)) is none early = early tt
 ReadsNone-run job (Err (fault.Print f)) is none early = early tt
 ReadsNone-run job (Err (fault.Soak cause)) is none early = early tt
+
+-- of the faults of a run only a thread that was refused comes before anything is read
+pub ReadsNone-refused : {P : Type 0} (cause : RunCause) → ReadsNone None (Err (fault.Run cause)) → (Err {A = ℕ} cause ≡ Err Refused → P) → P
+ReadsNone-refused Refused none unread = unread refl
+ReadsNone-refused (Tasks m) none unread = absurd none
+ReadsNone-refused Write none unread = absurd none
+ReadsNone-refused (Rejects name n) none unread = absurd none
+ReadsNone-refused (Read n) none unread = absurd none
+ReadsNone-refused (Line passed n) none unread = absurd none
+ReadsNone-refused NoMemory none unread = absurd none
 
 -- the faults that come once a command has a network
 abbrev IsLate : Fault → Type 0

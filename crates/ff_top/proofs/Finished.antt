@@ -1,5 +1,5 @@
 -- How a run ends, from how its network answered and how the file for the rejected records did.
-use Rattle.std.proofs.Common.{◌≡◌, ℕ, List, Option, refl, sym, subst, inl, inr}
+use Rattle.std.proofs.Common.{◌≡◌, ℕ, List, Option, refl, sym, subst, inl, inr, ◌∙◌}
 use Rattle.std.specs.Prelude.{Bool, true, Result, Ok, Err}
 use Rattle.ff_rec.specs.Lines.{Rec}
 use Rattle.ff_io.specs.Files.{Holdings}
@@ -19,6 +19,7 @@ use Rattle.ff_top.specs.Finishing.{Answered, Closes, Finished, closing}
 use Rattle.ff_top.specs.Outside.{Outside, StaysOrRises, count_by, streams_of}
 use Rattle.ff_top.specs.Running.{Stored, Ran, RanByThreads, CountsRun, run_output, run_refused, run_job}
 use Rattle.ff_top.specs.declared.run_cause.RunCause.{RunCause}
+use Rattle.ff_top.specs.declared.run_cause.RunCause.TheVariants.{Refused, Tasks, Write, Rejects, NoMemory}
 
 module _ (t : Tree OpState) (tasks : ℕ) (threads : Bool) (rejects : Option (List ℕ)) (before now : Outside) where
   abbrev j : Job OpState
@@ -104,3 +105,23 @@ module _ (before now output starts : ℕ) where
       subst (HasCounts before now output starts (Err (net.Run run.Write))) (sym finished.0) (counts, refl, refl)
   HasCounts-finished tasks rejects told told_now (Err (net.Run run.NoMemory)) answer counts finished =
       subst (HasCounts before now output starts (Err (net.Run run.NoMemory))) (sym finished.0) (counts, refl, refl)
+
+-- a run whose answer is that a thread was refused is one whose network answered that
+closing-Refused : (stop : Stop) (n : ℕ) → closing stop n ≡ Err Refused → ⊥
+closing-Refused stop.End n is = cc
+closing-Refused stop.Read n is = cc
+closing-Refused (stop.Line fault) n is = cc
+
+pub Refused-finished : (tasks : ℕ) (rejects : Option (List ℕ)) (a : Result Ending NetFault) (told now : Option Holdings) (answer : Result ℕ RunCause)
+    → Finished tasks rejects a told now answer → answer ≡ Err Refused → a ≡ Err net.Refused
+Refused-finished tasks rejects (Ok ending) told now answer closes is = elim closes [
+  | inl done ↦ absurd (closing-Refused ending.stop ending.report.rejected (sym done.0 ∙ is))
+  | inr lost ↦ elim lost [
+    | inl failed ↦ let e : Err (Rejects failed.name ending.report.rejected) ≡ Err {A = ℕ} Refused = sym failed.is ∙ is in absurd (cc)
+    | inr out ↦ let e : Err NoMemory ≡ Err {A = ℕ} Refused = sym out.0 ∙ is in absurd (cc)
+  ]
+]
+Refused-finished tasks rejects (Err net.Refused) told now answer h is = refl
+Refused-finished tasks rejects (Err (net.Run run.Tasks)) told now answer h is = let e : Err (Tasks tasks) ≡ Err {A = ℕ} Refused = sym h.0 ∙ is in absurd (cc)
+Refused-finished tasks rejects (Err (net.Run run.Write)) told now answer h is = let e : Err Write ≡ Err {A = ℕ} Refused = sym h.0 ∙ is in absurd (cc)
+Refused-finished tasks rejects (Err (net.Run run.NoMemory)) told now answer h is = let e : Err NoMemory ≡ Err {A = ℕ} Refused = sym h.0 ∙ is in absurd (cc)

@@ -12,6 +12,7 @@ use Rattle.ff_top.specs.Soaking.{soak_output, soak_refused}
 use Rattle.ff_top.specs.Texts.{IsKnown, IsGiven, IsGivenFault, IsSpelled, KeepsRules, given_files}
 use Rattle.ff_top.specs.declared.fault.Fault.{Fault}
 use Rattle.ff_top.specs.declared.fault.Fault.TheVariants.{Words, NotBuilt, Given, Run, Print, Soak}
+use Rattle.ff_top.specs.declared.run_cause.RunCause.TheVariants as run
 use Rattle.ff_words.specs.Words.{command}
 use Rattle.ff_words.specs.declared.command.Command.{Command}
 use Rattle.ff_words.specs.declared.command.Command.TheVariants as of
@@ -65,9 +66,11 @@ Comes words before now (Err (Run fault)) = Did words before now (Err (Run fault)
 Comes words before now (Err (Print fault)) = Did words before now (Err (Print fault))
 Comes words before now (Err (Soak cause)) = DidSoak words before now (Err (Soak cause))
 
--- nothing is read at this answer to these words: they are no command that reads the input, or the fault comes before its run
+-- nothing is read at this answer to these words: they are no command that reads the input, or the fault comes before a run or a
+-- thread is refused
 abbrev pub ReadsNone : Option Command → Result ℕ Fault → Type 0
 ReadsNone job (Ok n) = IsSomeAnd job (λ j. reads_input j ≡ false)
+ReadsNone job (Err (Run run.Refused)) = Unit {0}
 ReadsNone job (Err (Run cause)) = ⊥
 ReadsNone job (Err fault) = Unit {0}
 

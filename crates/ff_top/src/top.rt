@@ -50,8 +50,8 @@ pub fn ffrun<
     ensures usage { result ≡ 1 → command (texts words.now) ≡ None }
     ensures no_command { command (texts words.now) ≡ None → (result ≡ 1) ⊎ (result ≡ 6) }
 
-    // At 1 and 2, and by a command that doesn't read the input, nothing is done with it: it is the very same behind the call.
-    ensures unread { (result ≡ 1) ⊎ (result ≡ 2) → devices.new.input ≡ devices.old.input }
+    // At 1, 2 and 5, and by a command that doesn't read the input, the input is the same value behind the call.
+    ensures unread { (result ≡ 1) ⊎ ((result ≡ 2) ⊎ (result ≡ 5)) → devices.new.input ≡ devices.old.input }
     ensures unread_by { IsSomeAnd (command (texts words.now)) (λ job. reads_input job ≡ false)
         → devices.new.input ≡ devices.old.input }
 

@@ -1,5 +1,5 @@
 // The network by threads, over any source and any sink.
-ghost use Rattle.std.specs.Prelude.{◌≡◌, ◌+◌, List, length, false, IfOk, OnOk};
+ghost use Rattle.std.specs.Prelude.{◌≡◌, ◌+◌, List, length, false, Err, IfOk, OnOk};
 ghost use Rattle.ff_engine.specs.Runs.{NetRan, CountsNetInput, refused_count, net_output_count};
 ghost use Rattle.ff_net.specs.Counts.{units};
 ghost use Rattle.ff_net.specs.Tree.{tree_of};
@@ -47,6 +47,8 @@ pub fn widest_line<
     ensures refusals { S.refused spawner.new ≡ refused_count (S.refused spawner.old) result }
     ensures input_faults { CountsNetInput (I.faults source.old) (I.faults source.new) result }
     ensures output_faults { O.faults sink.new ≡ net_output_count (O.faults sink.old) result }
+    ensures unread { result ≡ Err NetFault.Refused → source.new ≡ source.old }
+    ensures unwritten { result ≡ Err NetFault.Refused → sink.new ≡ sink.old }
 {
     // No wrap stands in it, and so it has no tasks.
     run_net(

@@ -2,7 +2,7 @@
 use Rattle.std.proofs.Common.{inr}
 use Rattle.std.specs.Prelude.{Ok, Err}
 use Rattle.ff_net.specs.Tree.{tree_of}
-use Rattle.ff_top.proofs.Executed.{Ran-early}
+use Rattle.ff_top.proofs.Executed.{Ran-early, ReadsNone-refused}
 use Rattle.ff_top.specs.Running.{by_threads, run_job}
 use Rattle.ff_top.proofs.execute.run_given.Goals as goal
 
@@ -27,3 +27,6 @@ returns-in-Ok-clause-handled g c =
       done = Ran-early (run_job t c.args.order.tasks c.args.order.rejects) (by_threads c.args.order.one) c.args.order.rejects _ _ (g.F.Files.told mid) (g.F.Files.faults mid) c.in-Ok.ensures.keeps
           (Err c.in-Err-run.cause) c.in-Err-run.ensures.ran;
     })
+
+pub returns-in-Ok-clause-input : goal.returns-in-Ok-clause-input
+returns-in-Ok-clause-input g c none = ReadsNone-refused c.in-Err-run.cause none c.in-Err-run.ensures.unread

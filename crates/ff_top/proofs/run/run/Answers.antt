@@ -2,7 +2,7 @@
 use Rattle.std.proofs.Common.{◌≡◌, subst, ◌∙◌}
 use Rattle.ff_net.specs.Tree.{tree_of}
 use Rattle.ff_top.proofs.Answering.{Answered-files}
-use Rattle.ff_top.proofs.Finished.{Ran-finished, HasCounts-finished}
+use Rattle.ff_top.proofs.Finished.{Ran-finished, HasCounts-finished, Refused-finished}
 use Rattle.ff_top.specs.Finishing.{Finished}
 use Rattle.ff_top.specs.Outside.{count_by, outside_of}
 use Rattle.ff_top.specs.Running.{by_threads, run_files, run_job}
@@ -38,3 +38,8 @@ returns-clause-counts g c =
       output = a.ensures.output_faults ∙ has.1;
       starts = a.ensures.refusals ∙ has.2;
     }
+
+pub returns-clause-unread : goal.returns-clause-unread
+returns-clause-unread g c refused =
+    let a = c.answer-answer in
+    a.ensures.unread (Refused-finished c.args.order.tasks c.args.order.rejects a.result _ _ c.finish.result c.finish.ensures.ends refused)
