@@ -7,12 +7,14 @@ use Rattle.ff_plan.specs.Rows.{Row}
 use Rattle.ff_plan.specs.declared.kind.Party.{Party}
 use Rattle.ff_plan.specs.declared.kind.Party.TheVariants.{Caller, Unit as OfUnit}
 use Rattle.ff_plan.specs.declared.kind.UnitKind.{UnitKind}
-use Rattle.ff_plan.specs.declared.kind.UnitKind.TheVariants.{Stage, Master}
+use Rattle.ff_plan.specs.declared.kind.UnitKind.TheVariants.{Stage, Master, Worker}
 use Rattle.ff_plan.specs.declared.layout.Edge.{Edge}
 use Rattle.ff_ring.specs.Ends.{got_of, put_of, room_of, is_eager, is_eager_in, read_ring, written_ring, IsMade}
 use Rattle.ff_ring.specs.Names.{RingName}
 use Rattle.ff_ring.specs.declared.ring_in.RingIn.{RingIn}
 use Rattle.ff_ring.specs.declared.ring_out.RingOut.{RingOut}
+use Rattle.ff_ring.specs.declared.spins.Spins.{Spins}
+use Rattle.ff_ring.specs.declared.spins.Spins.TheVariants.{Few, Many}
 use Rattle.ff_engine.specs.Slots.{EachKept}
 use Rattle.ff_engine.specs.declared.delivery.Delivery.{Delivery}
 use Rattle.ff_engine.specs.declared.delivery.Delivery.TheVariants.{Prompt, Gathered}
@@ -29,7 +31,7 @@ IsFreshPair (Some inn) (Some out) = IsFreshRing inn out
 IsFreshPair (Some inn) None = ⊥
 IsFreshPair None out = ⊥
 
--- whether a unit that runs a node hands over at once what its reader lacks
+-- whether a stage hands over at once what its reader lacks
 abbrev pub is_prompt : Delivery → Bool
 is_prompt Prompt = true
 is_prompt Gathered = false
@@ -44,7 +46,8 @@ abbrev pub row_hurries : Delivery → Option Row → Bool
 row_hurries delivery None = true
 row_hurries delivery (Some row) = hurries delivery row.kind
 
--- whether the writer of an edge does so; the caller hands over behind each piece of its input
+-- whether the writer of an edge does so; the caller doesn't, who hands over what waits where a read gave less than it might, and before
+-- each pause
 abbrev pub writer_hurries : Delivery → List Row → Party → Bool
 writer_hurries delivery rows Caller = false
 writer_hurries delivery rows (OfUnit number) = row_hurries delivery (slice_get rows number)
@@ -94,3 +97,9 @@ abbrev pub IsFirst : Option (List Message) → Option (List Message) → Type 0
 IsFirst None put = Unit {0}
 IsFirst (Some got) None = ⊥
 IsFirst (Some got) (Some put) = (rest : List Message) × (put ≡ got ++ rest)
+
+-- how long the thread of such a unit spins: in a wrap each waits for the other's answer
+abbrev pub spins_for : UnitKind → Spins
+spins_for Master = Many
+spins_for Worker = Many
+spins_for _ = Few

@@ -1,6 +1,6 @@
 // When finished records go on.
 
-/// When a unit that runs a node hands over what the node sent. Whatever is chosen, the same records come; so no clause hangs on it but
+/// When a stage hands over what its node sent. Whatever is chosen, the same records come; so no clause hangs on it but
 /// that of the rings.
 #[derive(Clone, Copy, Debug, PartialEq, Eq, Hash)]
 pub enum Delivery {

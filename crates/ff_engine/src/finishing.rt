@@ -108,7 +108,7 @@ fn conclude<U: Unit>(
 fn close<R: Wait, O: Sink>(caller: &mut Caller, rt: &R, sink: &mut O) -> Result<(), Halt>
     requires { IsOpen (caller_of caller.old).put }
     ensures put { OnOk result ((caller_of caller.new).put ≡ (caller_of caller.old).put ++ Eos ∷ []) }
-    ensures end { OnOk result ((caller_of caller.new).end ≢ None) }
+    ensures end { (caller_of caller.new).end ≢ None }
     ensures ends { OnErr result (EndsOnce (caller_of caller.old).put (caller_of caller.new).put) }
     ensures goes { GoesOn (caller_of caller.old) result (caller_of caller.new)
         (O.taken sink.old) (O.taken sink.new) (O.faults sink.old) (O.faults sink.new) }

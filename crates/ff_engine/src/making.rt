@@ -2,7 +2,7 @@
 ghost use Rattle.std.specs.Prelude.{◌≡◌, ℕ, length, map, All, IfOk, OnOk};
 ghost use Rattle.std.specs.List.{AllZip, flat_map};
 ghost use Rattle.ff_ring.specs.Names.{RingName};
-ghost use Rattle.ff_engine.specs.Boards.{AreFresh, AreNamed};
+ghost use Rattle.ff_engine.specs.Boards.{AreFresh, AreNamed, spins_for};
 ghost use Rattle.ff_engine.specs.Jobs.{IsFresh, IsOpened};
 ghost use Rattle.ff_engine.specs.Lines.{HasEnds};
 ghost use Rattle.ff_engine.specs.Slots.{Holds, emptied};
@@ -54,7 +54,9 @@ pub(crate) fn make_jobs<U: Unit, R: Clone + Drop>(
 }
 
 // How long the thread of a unit spins. A worker of a wrap waits for its next task, and the master for the answers.
-fn spins_of(kind: UnitKind) -> Spins {
+fn spins_of(kind: UnitKind) -> Spins
+    ensures { result ≡ spins_for kind }
+{
     match kind {
         UnitKind::Master | UnitKind::Worker => Spins::Many,
         _ => Spins::Few,

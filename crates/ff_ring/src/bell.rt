@@ -16,7 +16,7 @@ const RESTS: u64 = 2;
 // As before, and another thread noted it.
 const NOTED: u64 = 3;
 
-/// The bell of a thread. The other ends of its rings ring it behind each handing over, which wakes the thread.
+/// The bell of a thread. The other ends of its rings ring it behind a handing over, or behind several at once, which wakes the thread.
 ///
 /// It also tells whether the thread rests. A thread rests only once a try found nothing that began after the last ring:
 /// a ring undoes what led there, and a try that began before it doesn't count. What was handed over before a ring is

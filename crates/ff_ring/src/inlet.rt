@@ -21,7 +21,7 @@ pub(crate) struct Inlet<T> {
 impl<T> Inlet<T> {
     ghost use Rattle.rtrb.specs.Ring.{consumer_capacity};
     ghost use Rattle.ff_ring.specs.Inlets.{TakesOver, GoesBack};
-    ghost use Rattle.ff_ring.specs.Ringers.{Notes};
+    ghost use Rattle.ff_ring.specs.Ringers.{Notes, told_of_blocks};
 
     /// Takes the next bundle in place of an emptied one, which goes back. The writer is told of it at once where that is asked
     /// for.
@@ -30,12 +30,12 @@ impl<T> Inlet<T> {
         requires empty { bundle.old.items ≡ [] }
         requires roomy { 0 < deque_capacity bundle.old }
         ensures exchanged { TakesOver self.old bundle.old self.new bundle.new }
-        ensures told { Notes eager (consumer_capacity self.old.end) self.old.writer self.new.writer }
+        ensures told { Notes eager (told_of_blocks (consumer_capacity self.old.end)) self.old.writer self.new.writer }
     {
         let filled = self.end.pop_known();
         let emptied = mem::replace(bundle, filled);
         give_back(&mut self.spares, emptied);
-        self.writer.note(eager, self.end.capacity());
+        self.writer.note(eager, self.end.capacity().div_ceil(2));
     }
 }
 

@@ -19,7 +19,7 @@ pub(crate) struct Outlet<T> {
 impl<T> Outlet<T> {
     ghost use Rattle.std.specs.Prelude.{MatchBool};
     ghost use Rattle.ff_ring.specs.Outlets.{slots_of, hands_of, HandsOver, IsDue, Looks};
-    ghost use Rattle.ff_ring.specs.Ringers.{Notes};
+    ghost use Rattle.ff_ring.specs.Ringers.{Notes, told_of_bundles};
 
     /// Hands a bundle over and puts an empty block in its place. It answers whether there was room. The reader is told of it at
     /// once where that is asked for.
@@ -28,7 +28,7 @@ impl<T> Outlet<T> {
         requires filled { 0 < deque_len bundle.old }
         requires roomy { 0 < deque_capacity bundle.old }
         ensures exchanged { HandsOver self.old bundle.old result self.new bundle.new }
-        ensures told { MatchBool result (Notes eager (slots_of self.old) self.old.reader self.new.reader)
+        ensures told { MatchBool result (Notes eager (told_of_bundles (slots_of self.old)) self.old.reader self.new.reader)
             (self.new.reader ≡ self.old.reader) }
         ensures roomy { 0 < deque_capacity bundle.new }
     {
@@ -40,13 +40,17 @@ impl<T> Outlet<T> {
         };
         let filled = mem::replace(bundle, spare);
         self.end.push_reserved(filled);
-        self.reader.note(eager, self.end.capacity());
+        let slots = self.end.capacity();
+        // A quarter is left to the writer, which goes on while the reader wakes.
+        self.reader
+            .note(eager, slots.saturating_sub((slots / 4).max(1)));
         true
     }
 
     /// Whether a bundle could be handed over.
     pub(crate) fn has_room(&mut self) -> bool
         ensures looked { Looks self.old self.new }
+        ensures reader { self.new.reader ≡ self.old.reader }
         ensures value { IsTrue result ↔ (0 < hands_of self.new) }
     {
         !self.end.is_full() && !self.spares.is_empty()
@@ -57,6 +61,7 @@ impl<T> Outlet<T> {
     #[inline(always)]
     pub(crate) fn is_due(&mut self, eager: bool) -> bool
         ensures looked { Looks self.old self.new }
+        ensures reader { self.new.reader ≡ self.old.reader }
         ensures value { IsTrue result ↔ IsDue eager self.new }
     {
         self.is_single() || (eager && self.end.slots() == self.end.capacity())

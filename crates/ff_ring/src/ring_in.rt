@@ -1,5 +1,5 @@
 // The reading end of a ring.
-ghost use Rattle.std.specs.Prelude.{◌≡◌, ◌<◌};
+ghost use Rattle.std.specs.Prelude.{◌≡◌, ◌<◌, ◌≤◌, IsTrue};
 ghost use Rattle.std.specs.List.{flat_map};
 ghost use Rattle.std.proofs.Common.{deque_items, deque_capacity};
 ghost use Rattle.rtrb.specs.Ring.{received};
@@ -35,7 +35,7 @@ impl<T: Drop> Drop for RingIn<T> {
 }
 
 impl<T> RingIn<T> {
-    ghost use Rattle.std.specs.Prelude.{◌∷◌, ◌++◌, [], length, true, ◌↔◌, IsTrue};
+    ghost use Rattle.std.specs.Prelude.{◌∷◌, ◌++◌, [], length, true, ◌↔◌};
     ghost use Rattle.rtrb.specs.Ring.{known_items};
     ghost use Rattle.ff_ring.specs.Ends.{got_of, known_of, there_of, untold_in, is_eager_in, read_ring};
 
@@ -76,6 +76,7 @@ impl<T> RingIn<T> {
         ensures there { there_of self.new ≡ there_of self.old }
         ensures some { 0 < length self.new.bundle.items }
         ensures eager { is_eager_in self.new ≡ is_eager_in self.old }
+        ensures eager_told { IsTrue (is_eager_in self.old) → untold_in self.new ≡ 0 }
     {
         self.inlet.take_over(&mut self.bundle, self.eager);
     }
@@ -108,6 +109,7 @@ impl<T> RingIn<T> {
             → (known_of self.old ≡ 0) × (known_of self.new ≡ 0) }
         ensures told { self.new.bundle.items ≡ [] → untold_in self.new ≡ 0 }
         ensures eager { is_eager_in self.new ≡ is_eager_in self.old }
+        ensures eager_told { IsTrue (is_eager_in self.old) → untold_in self.new ≤ untold_in self.old }
     {
         if self.bundle.is_empty() {
             if self.inlet.end.is_empty() {
@@ -139,6 +141,7 @@ impl<T> Inbox<T> for RingIn<T> {
         ensures takes { Takes (got_of self.old) (known_of self.old) result (got_of self.new) (known_of self.new) }
         ensures told { result ≡ None → untold_in self.new ≡ 0 }
         ensures eager { is_eager_in self.new ≡ is_eager_in self.old }
+        ensures eager_told { IsTrue (is_eager_in self.old) → untold_in self.new ≤ untold_in self.old }
     {
         self.look();
         self.bundle.pop_front()

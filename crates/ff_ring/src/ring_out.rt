@@ -56,7 +56,7 @@ impl<T> RingOut<T> {
 
     /// Whether a put hands over what waits as soon as the reader is seen to have taken all else, and the reader is told of
     /// each bundle, which an end does until it is told otherwise. One that isn't eager hands over full bundles and the end of
-    /// the stream, and the rest at `flush`. It tells of half a ring at once, of the end, and at `flush`.
+    /// the stream, and the rest at `flush`. It tells of three quarters of a ring at once, of the end, and at `flush`.
     pub fn set_eager(&mut self, eager: bool)
         ensures link { written_ring self.new ≡ written_ring self.old }
         ensures put { put_of self.new ≡ put_of self.old }
@@ -76,6 +76,7 @@ impl<T> RingOut<T> {
         ensures room { room_of self.old ≤ room_of self.new }
         ensures eager { is_eager self.new ≡ is_eager self.old }
         ensures answer { MatchBool result (HasPlace self.new) (room_of self.new ≡ 0) }
+        ensures eager_told { IsTrue (is_eager self.old) → untold_out self.new ≤ untold_out self.old }
     {
         if self.outlet.is_single() {
             return self.outlet.has_room();
@@ -96,6 +97,7 @@ impl<T> RingOut<T> {
         ensures eager { is_eager self.new ≡ is_eager self.old }
         ensures gathers { Gathers m self.new }
         ensures told { ¬ IsOpenMsg m → waiting_of self.new ≡ 0 → untold_out self.new ≡ 0 }
+        ensures eager_told { IsTrue (is_eager self.old) → untold_out self.new ≤ untold_out self.old }
     {
         let ends = matches!(m, Msg::Eos | Msg::Abort);
         self.bundle.push_back_reserved(m);
@@ -135,6 +137,7 @@ impl<T> Outbox<T> for RingOut<T> {
         ensures eager { is_eager self.new ≡ is_eager self.old }
         ensures gathers { Gathers m self.new }
         ensures told { result ≡ Put.Done → ¬ IsOpenMsg m → waiting_of self.new ≡ 0 → untold_out self.new ≡ 0 }
+        ensures eager_told { IsTrue (is_eager self.old) → untold_out self.new ≤ untold_out self.old }
     {
         if !self.make_room() {
             return Put::Full(m);

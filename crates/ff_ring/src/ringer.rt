@@ -23,12 +23,11 @@ impl Ringer {
         Ringer { bell, untold: 0 }
     }
 
-    /// Something was handed over. The thread is told at once where that is asked for, and else once it was done for half of
-    /// the ring's slots.
-    pub(crate) fn note(&mut self, eager: bool, slots: usize)
-        ensures { Notes eager slots self.old self.new }
+    /// Something was handed over. The thread is told at once where that is asked for, and else once it was done so often.
+    pub(crate) fn note(&mut self, eager: bool, much: usize)
+        ensures { Notes eager much self.old self.new }
     {
-        if eager || self.untold >= slots.saturating_sub(1) / 2 {
+        if eager || self.untold >= much.saturating_sub(1) {
             self.ring();
         } else {
             self.untold += 1;

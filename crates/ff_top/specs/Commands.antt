@@ -30,6 +30,12 @@ abbrev pub reads_input : Command → Bool
 reads_input (Run given cap queue tasks one rejects) = true
 reads_input _ = false
 
+-- whether all work of a command is done on the calling thread
+abbrev pub works_alone : Command → Bool
+works_alone (Run given cap queue tasks one rejects) = one
+works_alone (Soak n workers cap queue) = false
+works_alone _ = true
+
 -- the text or file of a command that is built, where it is given one
 abbrev pub given_to : Command → Option Given
 given_to (Run given cap queue tasks one rejects) = Some given

@@ -1,6 +1,6 @@
 // From words to what they do.
-ghost use Rattle.std.specs.Prelude.{◌≡◌, None, Some, Err, IfErr};
-ghost use Rattle.ff_top.specs.Commands.{PrintDone, RunDone, SoakDone};
+ghost use Rattle.std.specs.Prelude.{◌≡◌, true, None, Some, Err, IfErr, IsSomeAnd};
+ghost use Rattle.ff_top.specs.Commands.{PrintDone, RunDone, SoakDone, works_alone};
 ghost use Rattle.ff_top.specs.Endings.{Comes, Counts, ReadsNone};
 ghost use Rattle.ff_top.specs.Working.{Handled, Worked};
 ghost use Rattle.ff_words.specs.Parsed.{texts};
@@ -39,6 +39,8 @@ pub fn execute<
     ensures counts { let seen = ⟦<Devices<F, I, O, E, S> as Seen>⟧.outside in
         Counts (seen devices.old) (seen devices.new) result }
     ensures input { ReadsNone (command (texts words.now)) result → devices.new.input ≡ devices.old.input }
+    ensures alone { IsSomeAnd (command (texts words.now)) (λ job. works_alone job ≡ true)
+        → devices.new.spawner ≡ devices.old.spawner }
     ensures err { devices.new.err ≡ devices.old.err }
 {
     match read_command(alloc, words) {
@@ -61,6 +63,7 @@ fn work<
     ensures counts { let seen = ⟦<Devices<F, I, O, E, S> as Seen>⟧.outside in
         Counts (seen devices.old) (seen devices.new) result }
     ensures input { ReadsNone (Some job) result → devices.new.input ≡ devices.old.input }
+    ensures alone { works_alone job ≡ true → devices.new.spawner ≡ devices.old.spawner }
     ensures err { devices.new.err ≡ devices.old.err }
 {
     match job {
@@ -113,6 +116,7 @@ fn run_given<
     ensures counts { let seen = ⟦<Devices<F, I, O, E, S> as Seen>⟧.outside in
         Counts (seen devices.old) (seen devices.new) result }
     ensures input { IfErr result (λ fault. ReadsNone None (Err fault) → devices.new.input ≡ devices.old.input) }
+    ensures alone { order.one ≡ true → devices.new.spawner ≡ devices.old.spawner }
     ensures err { devices.new.err ≡ devices.old.err }
 {
     match read_given(alloc, &mut devices.files, given) {
@@ -136,6 +140,7 @@ fn print_given<F: Files, I: Source, O: Sink, E: Sink, S: Refusals>(
     ensures counts { let seen = ⟦<Devices<F, I, O, E, S> as Seen>⟧.outside in
         Counts (seen devices.old) (seen devices.new) result }
     ensures input { devices.new.input ≡ devices.old.input }
+    ensures alone { devices.new.spawner ≡ devices.old.spawner }
     ensures err { devices.new.err ≡ devices.old.err }
 {
     match read_given(alloc, &mut devices.files, given) {

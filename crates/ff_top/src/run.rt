@@ -1,5 +1,5 @@
 // The command `run`: a network over the records of the input.
-ghost use Rattle.std.specs.Prelude.{◌≡◌, Err};
+ghost use Rattle.std.specs.Prelude.{◌≡◌, true, Err};
 ghost use Rattle.ff_net.specs.Tree.{tree_of};
 ghost use Rattle.ff_engine.specs.Runs.{CountsNetInput, net_output_count, refused_count};
 ghost use Rattle.ff_top.specs.Finishing.{Answered, closing, Finished};
@@ -56,6 +56,7 @@ pub fn run<
     ensures counts { let seen = ⟦<Devices<F, I, O, E, S> as Seen>⟧.outside in
         RunCounts (seen devices.old) (seen devices.new) result }
     ensures unread { result ≡ Err RunCause.Refused → devices.new.input ≡ devices.old.input }
+    ensures alone { order.one ≡ true → devices.new.spawner ≡ devices.old.spawner }
     ensures err { devices.new.err ≡ devices.old.err }
 {
     let answer = answer(rt, alloc, checked, &order, devices);
@@ -86,6 +87,7 @@ fn answer<
     ensures output_faults { O.faults devices.new.out ≡ net_output_count (O.faults devices.old.out) result }
     ensures refusals { S.refused devices.new.spawner ≡ refused_count (S.refused devices.old.spawner) result }
     ensures unread { result ≡ Err NetFault.Refused → devices.new.input ≡ devices.old.input }
+    ensures alone { order.now.one ≡ true → devices.new.spawner ≡ devices.old.spawner }
     ensures files { devices.new.files ≡ devices.old.files }
     ensures err { devices.new.err ≡ devices.old.err }
 {

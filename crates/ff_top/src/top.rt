@@ -1,6 +1,6 @@
 // The call that `main` makes.
-ghost use Rattle.std.specs.Prelude.{◌≡◌, ◌⊎◌, ℕ, [], ◌∷◌, None, Ok, Err, false, Contains, IsSomeAnd};
-ghost use Rattle.ff_top.specs.Commands.{reads_input};
+ghost use Rattle.std.specs.Prelude.{◌≡◌, ◌⊎◌, ℕ, [], ◌∷◌, None, Ok, Err, true, false, Contains, IsSomeAnd};
+ghost use Rattle.ff_top.specs.Commands.{reads_input, works_alone};
 ghost use Rattle.ff_top.specs.Endings.{Did, DidSoak, Ended, IsComplete};
 ghost use Rattle.ff_top.specs.Messages.{memory_message, status_of, Tells};
 ghost use Rattle.ff_words.specs.Parsed.{texts};
@@ -54,6 +54,10 @@ pub fn ffrun<
     ensures unread { (result ≡ 1) ⊎ ((result ≡ 2) ⊎ (result ≡ 5)) → devices.new.input ≡ devices.old.input }
     ensures unread_by { IsSomeAnd (command (texts words.now)) (λ job. reads_input job ≡ false)
         → devices.new.input ≡ devices.old.input }
+
+    // With `--one`, and by `check` and `plan`, what starts threads is the same value behind the call.
+    ensures alone { IsSomeAnd (command (texts words.now)) (λ job. works_alone job ≡ true)
+        → devices.new.spawner ≡ devices.old.spawner }
 
     // Where no count of faults or refused starts rose, and unless memory ran out: an accepted command over an input within the limits is
     // done, over another input a limit is told, a text that isn't accepted is refused, and a soak is done.

@@ -1,7 +1,8 @@
 // Messages to the first ring.
-ghost use Rattle.std.specs.Prelude.{◌≡◌, ◌++◌, ◌∷◌, [], OnOk, OnErr};
+ghost use Rattle.std.specs.Prelude.{◌≡◌, ◌≢◌, ◌++◌, ◌∷◌, [], None, OnOk, OnErr};
 ghost use Rattle.ff_rec.specs.Streams.{IsOpen};
 ghost use Rattle.ff_rec.specs.declared.msg.Msg.TheVariants.{Abort};
+ghost use Rattle.ff_ring.specs.Ends.{waiting_of};
 ghost use Rattle.ff_engine.specs.Callers.{GoesOn, SameRings, TakesMore, Feeds};
 ghost use Rattle.ff_engine.specs.Seen.{caller_of};
 
@@ -77,6 +78,8 @@ impl Caller {
         ensures put { (caller_of self.new).put ≡ (caller_of self.old).put ++ Abort ∷ [] }
         ensures more { TakesMore (caller_of self.old) (caller_of self.new) }
         ensures rings { SameRings (caller_of self.old) (caller_of self.new) }
+        ensures end { (caller_of self.new).end ≢ None }
+        ensures handed { waiting_of self.new.first ≡ 0 }
     {
         self.feed_dropping(rt, Msg::Abort);
         self.drop_rest(rt);
@@ -103,7 +106,8 @@ impl Caller {
 
     /// Hands over all that waits. The units wait for the end of the stream, which may be among it.
     pub(crate) fn hand_over<R: Wait>(&mut self, rt: &R)
-        ensures { caller_of self.new ≡ caller_of self.old }
+        ensures same { caller_of self.new ≡ caller_of self.old }
+        ensures handed { waiting_of self.new.first ≡ 0 }
     {
         for _ in rt.forever() {
             if self.first.flush() {

@@ -163,6 +163,7 @@ impl Caller {
         ensures put { (caller_of self.new).put ≡ (caller_of self.old).put }
         ensures more { TakesMore (caller_of self.old) (caller_of self.new) }
         ensures rings { SameRings (caller_of self.old) (caller_of self.new) }
+        ensures end { (caller_of self.new).end ≢ None }
     {
         for _ in rt.forever() {
             if self.end.is_some() {

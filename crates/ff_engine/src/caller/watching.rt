@@ -13,7 +13,7 @@ impl Caller {
     /// asked where no text is held, so of networks without a wrap.
     ///
     /// While all of them rest, nothing changes: each waits for its in or its out. If one waited for its out, the ring
-    /// behind it would be full, so that the unit behind waited for its out too, and so on to the last ring. So where
+    /// behind it wouldn't be empty, so that the unit behind waited for its out too, and so on to the last ring. So where
     /// nothing is found there afterwards, each waits for its in, and nothing is on its way.
     pub(crate) fn is_still(&mut self) -> bool
         ensures { caller_of self.new ≡ caller_of self.old }

@@ -1,7 +1,7 @@
 -- The command is given a network.
-use Rattle.std.proofs.Common.{sym, ap, subst, inl, inr}
+use Rattle.std.proofs.Common.{sym, ap, subst, inl, inr, ◌∙◌}
 use Rattle.ff_top.proofs.Executed.{ReadsNone-run}
-use Rattle.ff_top.specs.Commands.{DoneWith, given_to, reads_input}
+use Rattle.ff_top.specs.Commands.{DoneWith, given_to, reads_input, works_alone}
 use Rattle.ff_top.specs.Outside.{outside_of}
 use Rattle.ff_top.specs.Working.{Handled}
 use Rattle.ff_words.specs.declared.command.Command.{Command}
@@ -53,3 +53,10 @@ returns-in-Soak-clause-worked g c = inr (inr (record {
 -- a run reads the input, unless its text is at fault
 pub returns-in-Run-clause-input : goal.returns-in-Run-clause-input
 returns-in-Run-clause-input g c none = ReadsNone-run c.args.job c.run_given.result (ap reads_input c.in-Run.is) none c.run_given.ensures.input
+
+-- a run works alone where the words say so, and a soak never does
+pub returns-in-Run-clause-alone : goal.returns-in-Run-clause-alone
+returns-in-Run-clause-alone g c alone = c.run_given.ensures.alone (sym (ap works_alone c.in-Run.is) ∙ alone)
+
+pub returns-in-Soak-clause-alone : goal.returns-in-Soak-clause-alone
+returns-in-Soak-clause-alone g c alone = let e = sym (ap works_alone c.in-Soak.is) ∙ alone in absurd (cc)

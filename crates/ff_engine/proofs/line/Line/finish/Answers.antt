@@ -24,8 +24,8 @@ returns-in_err-report-clause-ends g c =
     (λ j xs front at.
     Ends-unreported g.N.Node.does j (caller_of c.args.self.caller) (caller_of shown.new.caller) c.args.self.crew xs front at
     (put_of c.into_parts-first.result.0) c.join-units.result.items (got_of c.into_parts-first.result.1) _ _ c.join-units.ensures.joined
-    (c.into_parts-first.ensures.put ∙ ap (λ s. s.put) c.hand_over.ensures)
-    (c.into_parts-first.ensures.got ∙ ap (λ s. s.got) c.hand_over.ensures) _ _
+    (c.into_parts-first.ensures.put ∙ ap (λ s. s.put) c.hand_over.ensures.same)
+    (c.into_parts-first.ensures.got ∙ ap (λ s. s.got) c.hand_over.ensures.same) _ _
     shown.result c.end-end.result c.any_over-over.result _ c.in_err-report.ensures c.any_over-over.ensures
     shown.ensures.put shown.ensures.goes.moves shown.ensures.ends shown.ensures.goes.breaks shown.ensures.goes.starves)
 
@@ -44,13 +44,13 @@ returns-in_err-write-clause-ends g c =
     (λ j xs front at.
     Ends-cut g.N.Node.does j (caller_of c.args.self.caller) (caller_of shown.new.caller) c.args.self.crew xs front at
     (put_of c.into_parts-first.result.0) c.join-units.result.items (got_of c.into_parts-first.result.1) _ _ c.join-units.ensures.joined
-    (c.into_parts-first.ensures.put ∙ ap (λ s. s.put) c.hand_over.ensures)
-    (c.into_parts-first.ensures.got ∙ ap (λ s. s.got) c.hand_over.ensures) _ _
+    (c.into_parts-first.ensures.put ∙ ap (λ s. s.put) c.hand_over.ensures.same)
+    (c.into_parts-first.ensures.got ∙ ap (λ s. s.got) c.hand_over.ensures.same) _ _
     shown.result c.end-end.result c.any_over-over.result _ c.in_ok-report.ensures c.any_over-over.ensures
-    (λ eos. subst (λ s. EndsWithEos s.got) c.hand_over.ensures (c.end-end.ensures.eos eos))
+    (λ eos. subst (λ s. EndsWithEos s.got) c.hand_over.ensures.same (c.end-end.ensures.eos eos))
     shown.ensures.put shown.ensures.goes.moves _
     (subst (λ (l : List ℕ). WritesSome l (g.O.Sink.taken shown.new.sink) (g.O.Sink.taken c.write.new.sink))
-    (c.into_parts-first.ensures.text ∙ ap (λ s. s.text) c.hand_over.ensures) c.in_err-write.ensures.some))
+    (c.into_parts-first.ensures.text ∙ ap (λ s. s.text) c.hand_over.ensures.same) c.in_err-write.ensures.some))
 
 pub returns-in_err-write-clause-counts : goal.returns-in_err-write-clause-counts
 returns-in_err-write-clause-counts g c =
@@ -66,13 +66,13 @@ returns-clause-ends g c =
     λ j xs front at.
     Ends-reported g.N.Node.does j (caller_of c.args.self.caller) (caller_of shown.new.caller) c.args.self.crew xs front at
     (put_of c.into_parts-first.result.0) c.join-units.result.items (got_of c.into_parts-first.result.1) _ _ c.join-units.ensures.joined
-    (c.into_parts-first.ensures.put ∙ ap (λ s. s.put) c.hand_over.ensures)
-    (c.into_parts-first.ensures.got ∙ ap (λ s. s.got) c.hand_over.ensures) _ _
+    (c.into_parts-first.ensures.put ∙ ap (λ s. s.put) c.hand_over.ensures.same)
+    (c.into_parts-first.ensures.got ∙ ap (λ s. s.got) c.hand_over.ensures.same) _ _
     shown.result c.end-end.result c.any_over-over.result _ c.in_ok-report.ensures c.any_over-over.ensures
-    (λ eos. subst (λ s. EndsWithEos s.got) c.hand_over.ensures (c.end-end.ensures.eos eos))
+    (λ eos. subst (λ s. EndsWithEos s.got) c.hand_over.ensures.same (c.end-end.ensures.eos eos))
     shown.ensures.put shown.ensures.goes.moves _
     (subst (λ (l : List ℕ). Writes l [] (g.O.Sink.taken shown.new.sink) (g.O.Sink.taken c.write.new.sink))
-    (c.into_parts-first.ensures.text ∙ ap (λ s. s.text) c.hand_over.ensures)
+    (c.into_parts-first.ensures.text ∙ ap (λ s. s.text) c.hand_over.ensures.same)
     (subst (λ (l : List ℕ). Writes c.into_parts-first.result.2 l (g.O.Sink.taken shown.new.sink) (g.O.Sink.taken c.write.new.sink)) c.in_ok-write.ensures.empty c.in_ok-write.ensures.all))
 
 pub returns-clause-work : goal.returns-clause-work
@@ -80,8 +80,8 @@ returns-clause-work g c =
     let shown = c.close-shown in
     WorkedThrough-all g.N.Node.does (caller_of c.args.self.caller) (caller_of shown.new.caller) c.args.self.crew
     (put_of c.into_parts-first.result.0) c.join-units.result.items (got_of c.into_parts-first.result.1) _ _ c.join-units.ensures.joined
-    (c.into_parts-first.ensures.put ∙ ap (λ s. s.put) c.hand_over.ensures)
-    (c.into_parts-first.ensures.got ∙ ap (λ s. s.got) c.hand_over.ensures)
+    (c.into_parts-first.ensures.put ∙ ap (λ s. s.put) c.hand_over.ensures.same)
+    (c.into_parts-first.ensures.got ∙ ap (λ s. s.got) c.hand_over.ensures.same)
     shown.result c.end-end.result c.any_over-over.result (Ok c.in_ok-report.report) c.in_ok-report.ensures shown.ensures.put
 
 pub returns-clause-counts : goal.returns-clause-counts
