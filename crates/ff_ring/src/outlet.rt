@@ -40,10 +40,10 @@ impl<T> Outlet<T> {
         };
         let filled = mem::replace(bundle, spare);
         self.end.push_reserved(filled);
-        let slots = self.end.capacity();
         // A quarter is left to the writer, which goes on while the reader wakes.
-        self.reader
-            .note(eager, slots.saturating_sub((slots / 4).max(1)));
+        let slots = self.end.capacity();
+        let much = slots.saturating_sub((slots / 4).max(1));
+        self.reader.note(eager, much);
         true
     }
 
