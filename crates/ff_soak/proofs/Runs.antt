@@ -57,7 +57,7 @@ read-all End v n got left ended few splits h counts =
 read-all Read v n got left ended few splits h counts = absurd (omega arith)
 read-all (Line fault) v n got left ended few splits h counts =
     let none : limit_by v got ≡ None = limit_by-front v n got left few splits in
-    let clash : Some fault ≡ None = sym h ∙ none in
+    let clash : Some fault ≡ None = sym h.0 ∙ none in
     absurd (cc)
 
 -- lists that are the same have one summary

@@ -112,8 +112,12 @@ ReadsNone-run job (Err (fault.Given f)) is none early = early tt
 ReadsNone-run job (Err (fault.Print f)) is none early = early tt
 ReadsNone-run job (Err (fault.Soak cause)) is none early = early tt
 
+-- the answer of a run that ended so
+abbrev stopped : RunCause → Result ℕ RunCause
+stopped cause = Err cause
+
 -- of the faults of a run only a thread that was refused comes before anything is read
-pub ReadsNone-refused : {P : Type 0} (cause : RunCause) → ReadsNone None (Err (fault.Run cause)) → (Err {A = ℕ} cause ≡ Err Refused → P) → P
+pub ReadsNone-refused : {P : Type 0} (cause : RunCause) → ReadsNone None (Err (fault.Run cause)) → (stopped cause ≡ stopped Refused → P) → P
 ReadsNone-refused Refused none unread = unread refl
 ReadsNone-refused (Tasks m) none unread = absurd none
 ReadsNone-refused Write none unread = absurd none

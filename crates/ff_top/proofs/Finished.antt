@@ -106,6 +106,10 @@ module _ (before now output starts : ℕ) where
   HasCounts-finished tasks rejects told told_now (Err (net.Run run.NoMemory)) answer counts finished =
       subst (HasCounts before now output starts (Err (net.Run run.NoMemory))) (sym finished.0) (counts, refl, refl)
 
+-- the answer of a run that ended so
+abbrev stopped : RunCause → Result ℕ RunCause
+stopped cause = Err cause
+
 -- a run whose answer is that a thread was refused is one whose network answered that
 closing-Refused : (stop : Stop) (n : ℕ) → closing stop n ≡ Err Refused → ⊥
 closing-Refused stop.End n is = cc
@@ -117,11 +121,11 @@ pub Refused-finished : (tasks : ℕ) (rejects : Option (List ℕ)) (a : Result E
 Refused-finished tasks rejects (Ok ending) told now answer closes is = elim closes [
   | inl done ↦ absurd (closing-Refused ending.stop ending.report.rejected (sym done.0 ∙ is))
   | inr lost ↦ elim lost [
-    | inl failed ↦ let e : Err (Rejects failed.name ending.report.rejected) ≡ Err {A = ℕ} Refused = sym failed.is ∙ is in absurd (cc)
-    | inr out ↦ let e : Err NoMemory ≡ Err {A = ℕ} Refused = sym out.0 ∙ is in absurd (cc)
+    | inl failed ↦ let e : stopped (Rejects failed.name ending.report.rejected) ≡ stopped Refused = sym failed.is ∙ is in absurd (cc)
+    | inr out ↦ let e : stopped NoMemory ≡ stopped Refused = sym out.0 ∙ is in absurd (cc)
   ]
 ]
 Refused-finished tasks rejects (Err net.Refused) told now answer h is = refl
-Refused-finished tasks rejects (Err (net.Run run.Tasks)) told now answer h is = let e : Err (Tasks tasks) ≡ Err {A = ℕ} Refused = sym h.0 ∙ is in absurd (cc)
-Refused-finished tasks rejects (Err (net.Run run.Write)) told now answer h is = let e : Err Write ≡ Err {A = ℕ} Refused = sym h.0 ∙ is in absurd (cc)
-Refused-finished tasks rejects (Err (net.Run run.NoMemory)) told now answer h is = let e : Err NoMemory ≡ Err {A = ℕ} Refused = sym h.0 ∙ is in absurd (cc)
+Refused-finished tasks rejects (Err (net.Run run.Tasks)) told now answer h is = let e : stopped (Tasks tasks) ≡ stopped Refused = sym h.0 ∙ is in absurd (cc)
+Refused-finished tasks rejects (Err (net.Run run.Write)) told now answer h is = let e : stopped Write ≡ stopped Refused = sym h.0 ∙ is in absurd (cc)
+Refused-finished tasks rejects (Err (net.Run run.NoMemory)) told now answer h is = let e : stopped NoMemory ≡ stopped Refused = sym h.0 ∙ is in absurd (cc)
