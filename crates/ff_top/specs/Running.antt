@@ -38,7 +38,8 @@ Stored (Some name) kept told now = HoldsBytes now name (text kept) × KeepsOther
 abbrev pub by_threads : Bool → Bool
 by_threads one = not one
 
--- for each unit a thread was started, and the threads handled each record and an end for each unit
+-- so many threads more were started as there are units, or more, and they handled as many messages as there are records and units
+-- together, or more
 pub record RanByThreads (j : Job OpState) (xs : List Rec) (before now : Outside) : Type 0 where
   pub starts : RoseBy (units j.net) before.starts now.starts
   pub worked : RoseBy (units j.net + length xs) before.worked now.worked

@@ -42,7 +42,8 @@ soak_refused n Refused = more n
 soak_refused n Write = n
 soak_refused n NoMemory = n
 
--- for each unit a thread was started, and the threads handled each record and an end for each unit
+-- so many threads more were started as there are units, or more, and they handled as many messages as there are records and units
+-- together, or more
 pub record Threaded (n w started started_now handled handled_now : ℕ) : Type 0 where
   pub starts : RoseBy (units (soak_net (workers_within w))) started started_now
   pub worked : RoseBy (units (soak_net (workers_within w)) + records_within n) handled handled_now

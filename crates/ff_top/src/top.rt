@@ -39,8 +39,9 @@ pub fn ffrun<
         Ended result (texts words.now) (seen devices.old) (seen devices.new) }
 
     // 0: the text that is given spells a network that keeps all rules, and the command was done with it: for `run` over all
-    // records of the input, of which the output took the text of an answer, and nothing besides. Where it ran by threads, one
-    // was started for each unit, and they handled each record. Or the words ask for a soak, and its summary was written.
+    // records of the input, of which the output took the text of an answer, and nothing besides. Where it ran by threads, as
+    // many starts as units were counted, or more, and as much work as records and units, or more. Or the words ask for a soak, and its
+    // summary was written.
     ensures done { let seen = ⟦<Devices<F, I, O, E, S> as Seen>⟧.outside in
         result ≡ 0 → (rejected : ℕ)
         × (Did (texts words.now) (seen devices.old) (seen devices.new) (Ok rejected)
