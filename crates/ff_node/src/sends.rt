@@ -47,7 +47,7 @@ impl Sends {
     }
 
     /// Adds a record to those sent. After a refusal nothing changed.
-    #[inline]
+    #[inline(always)]
     pub fn send(&mut self, r: Record) -> Result<(), NoMemory>
         ensures ok { OnOk result (self.new ≡ add self.old (r ∷ []) []) }
         ensures err { OnErr result (self.new ≡ self.old) }
