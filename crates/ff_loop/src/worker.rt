@@ -7,7 +7,7 @@ ghost use Rattle.ff_loop.specs.WorkerUnit.{worker_does};
 
 use ff_node::Node;
 use ff_port::{End, Ports, Step};
-use ff_rec::{Msg, Record};
+use ff_rec::Record;
 use ff_unit::{NodeRunner, Unit};
 use std::alloc::Global;
 use std::marker::Model;
@@ -46,7 +46,7 @@ impl<N: Node> Unit for WrapWorker<N> {
     ghost does = { worker_does N.does };
 
     fn step_once<P: Ports<Record>>(&mut self, ports: &mut P) -> Step {
-        self.runner.step(Some(Msg::Mark), ports)
+        self.runner.step(true, ports)
     }
 
     fn end_aborted(&mut self) {

@@ -2,6 +2,7 @@ pub mod Rests
 pub mod RowEnds
 pub mod Moving
 pub mod UnitMoving
+pub mod StepsOn
 pub mod PartyAt
 pub mod PartyRuns
 pub mod UnitRan

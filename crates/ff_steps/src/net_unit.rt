@@ -7,7 +7,7 @@ use ff_node::{Comb, Node};
 use ff_order::{ODeal, OMerge};
 use ff_port::{End, Ports, Step};
 use ff_rec::Record;
-use ff_unit::{Deal, Merge, Stage, Unit};
+use ff_unit::{Deal, Merge, Stage, Threaded, Unit};
 use std::marker::Model;
 
 /// A unit of a network: a stage, a deal, a merge, the deal or merge of an ordered farm, or the master or a worker of a wrap.
@@ -125,8 +125,6 @@ impl<N: Node> Unit for NetUnit<N> {
 
     ghost does = { net_does N.does };
 
-    // Always inline: a thread of its own steps such a unit and no other.
-    #[inline(always)]
     fn step_once<P: Ports<Record>>(&mut self, ports: &mut P) -> Step {
         match &mut self.part {
             Part::Stage(stage) => stage.step_once(ports),
@@ -188,4 +186,18 @@ impl<N: Node> Unit for NetUnit<N> {
     }
 
     ghost sound = { IsUnit-nodes N.does N.keeps_kind N.class_law };
+}
+
+impl<N: Node> Threaded for NetUnit<N> {
+    fn step_many<P: Ports<Record>>(&mut self, ports: &mut P) -> Step {
+        match &mut self.part {
+            Part::Stage(stage) => stage.step_on(ports),
+            Part::Deal(deal) => deal.step_on(ports),
+            Part::ODeal(deal) => deal.step_on(ports),
+            Part::Merge(merge) => merge.step_on(ports),
+            Part::OMerge(merge) => merge.step_on(ports),
+            Part::Master(master) => master.step_on(ports),
+            Part::Worker(worker) => worker.step_on(ports),
+        }
+    }
 }

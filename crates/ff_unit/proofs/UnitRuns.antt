@@ -1,10 +1,12 @@
 -- Runs of any unit go on with its acts.
-use Rattle.std.specs.Prelude.{◌≡◌, Bool, List, [], ◌∷◌, Option, None, Some}
+use Rattle.std.specs.Prelude.{◌≡◌, ℕ, zero, suc, Bool, true, false, List, [], ◌∷◌, Option, None, Some}
 use Rattle.std.proofs.Common.{refl, ◌∙◌, ap, sym, subst}
 use Rattle.ff_rec.specs.Lines.{Rec}
 use Rattle.ff_node.specs.Runs.{Message, Act, Took, Gave, Refused, Idle, Told, Handed, Leads, took, gave}
+use Rattle.ff_port.specs.declared.answers.End.{End}
 use Rattle.ff_port.specs.declared.answers.Step.{Step}
-use Rattle.ff_unit.specs.Units.{Doing, IsUnit, Ran, RanFrom, One, Answers, HandsReject, taken_by, told_by}
+use Rattle.ff_port.specs.declared.answers.Step.TheVariants.{Moved, Waits, Ended}
+use Rattle.ff_unit.specs.Units.{Doing, IsUnit, Ran, RanFrom, One, Moves, StepsOn, Answers, HandsReject, taken_by, told_by, idle_answer, answer_behind}
 
 module _ {U : Type 0} (d : Doing U) (laws : IsUnit d) where
   -- one act more
@@ -65,3 +67,93 @@ module _ {U : Type 0} (d : Doing U) (laws : IsUnit d) where
   pub opening-leads : (u : U) (acts : List Act) (v : U) → Leads d.Steps u acts v → d.opening v ≡ d.opening u
   opening-leads u [] v e = ap d.opening e
   opening-leads u (act ∷ acts) v l = laws.opening_kept l.0 act v l.2 ∙ opening-leads u acts l.0 l.1
+
+  -- any number of moves
+  pub Ran-moves : (n : ℕ) (u : U) (gots puts : List (List Message)) (v : U) (gots' puts' : List (List Message))
+      → Moves d n u gots puts v gots' puts' → Ran d u gots puts → Ran d v gots' puts'
+  Ran-moves zero u gots puts v gots' puts' m ran =
+      subst (λ w. Ran d w gots' puts') (sym m.0) (subst (λ gs. Ran d u gs puts') (sym m.1) (subst (λ ps. Ran d u gots ps) (sym m.2) ran))
+  Ran-moves (suc n) u gots puts v gots' puts' m ran = Ran-one m.0 m.1 m.2 Moved v gots' puts' m.4 (Ran-moves n u gots puts m.0 m.1 m.2 m.3 ran)
+
+  opening-moves : (n : ℕ) (u : U) (gots puts : List (List Message)) (v : U) (gots' puts' : List (List Message))
+      → Moves d n u gots puts v gots' puts' → d.opening v ≡ d.opening u
+  opening-moves zero u gots puts v gots' puts' m = ap d.opening m.0
+  opening-moves (suc n) u gots puts v gots' puts' m =
+      laws.opening_kept m.0 m.4.act v m.4.steps ∙ opening-moves n u gots puts m.0 m.1 m.2 m.3
+
+  taken-moves : (n : ℕ) (u : U) (gots puts : List (List Message)) (v : U) (gots' puts' : List (List Message))
+      → Moves d n u gots puts v gots' puts' → d.taken v ≡ d.taken u
+  taken-moves zero u gots puts v gots' puts' m = ap d.taken m.0
+  taken-moves (suc n) u gots puts v gots' puts' m =
+      taken-one m.0 m.1 m.2 Moved v gots' puts' m.4 ∙ taken-moves n u gots puts m.0 m.1 m.2 m.3
+
+  told-moves : (n : ℕ) (u : U) (gots puts : List (List Message)) (v : U) (gots' puts' : List (List Message))
+      → Moves d n u gots puts v gots' puts' → d.told v ≡ d.told u
+  told-moves zero u gots puts v gots' puts' m = ap d.told m.0
+  told-moves (suc n) u gots puts v gots' puts' m =
+      told-one m.0 m.1 m.2 Moved v gots' puts' m.4 ∙ told-moves n u gots puts m.0 m.1 m.2 m.3
+
+  -- an answer that tells an end
+  idle_answer-ended : (done : Bool) (fin : Option End) (how : End) → Ended how ≡ idle_answer done fin → (done ≡ true) × (fin ≡ Some how)
+  idle_answer-ended true (Some fin) how e = (refl, cc e)
+  idle_answer-ended true None how e = absurd (cc e)
+  idle_answer-ended false fin how e = absurd (cc e)
+
+  ended-act : (act : Act) (v : U) (how : End) → Answers d v act (Ended how) → (d.done v ≡ true) × (d.fin v ≡ Some how)
+  ended-act (Took k m) v how a = absurd (cc a)
+  ended-act (Gave k m) v how a = absurd (cc a)
+  ended-act Refused v how a = absurd (cc a)
+  ended-act Idle v how a = idle_answer-ended (d.done v) (d.fin v) how a
+  ended-act Told v how a = absurd a
+  ended-act (Handed x) v how a = absurd a
+
+  answer_behind-ended : (n : ℕ) (answer : Step) (how : End) → answer_behind n answer ≡ Ended how → answer ≡ Ended how
+  answer_behind-ended zero answer how e = e
+  answer_behind-ended (suc n) Moved how e = absurd (cc e)
+  answer_behind-ended (suc n) Waits how e = absurd (cc e)
+  answer_behind-ended (suc n) (Ended fin) how e = e
+
+  -- moves alone
+  answer_behind-moved : (n : ℕ) → answer_behind n Moved ≡ Moved
+  answer_behind-moved zero = refl
+  answer_behind-moved (suc n) = refl
+
+  pub StepsOn-moves : (n : ℕ) (u : U) (gots puts : List (List Message)) (v : U) (gots' puts' : List (List Message))
+      → Moves d (suc n) u gots puts v gots' puts' → StepsOn d u gots puts Moved v gots' puts'
+  StepsOn-moves n u gots puts v gots' puts' m = record {
+    moves = n;
+    before_last = m.0;
+    gots_before = m.1;
+    puts_before = m.2;
+    moved = m.3;
+    last_answer = Moved;
+    last = m.4;
+    answers = sym (answer_behind-moved n);
+  }
+
+  -- moves and one step more
+  module _ (u : U) (gots puts : List (List Message)) (answer : Step) (v : U) (gots' puts' : List (List Message)) (s : StepsOn d u gots puts answer v gots' puts') where
+    pub Ran-on : Ran d u gots puts → Ran d v gots' puts'
+    Ran-on ran =
+        Ran-one s.before_last s.gots_before s.puts_before s.last_answer v gots' puts' s.last
+        (Ran-moves s.moves u gots puts s.before_last s.gots_before s.puts_before s.moved ran)
+
+    pub opening-on : d.opening v ≡ d.opening u
+    opening-on =
+        laws.opening_kept s.before_last s.last.act v s.last.steps
+        ∙ opening-moves s.moves u gots puts s.before_last s.gots_before s.puts_before s.moved
+
+    pub taken-on : d.taken v ≡ d.taken u
+    taken-on =
+        taken-one s.before_last s.gots_before s.puts_before s.last_answer v gots' puts' s.last
+        ∙ taken-moves s.moves u gots puts s.before_last s.gots_before s.puts_before s.moved
+
+    pub told-on : d.told v ≡ d.told u
+    told-on =
+        told-one s.before_last s.gots_before s.puts_before s.last_answer v gots' puts' s.last
+        ∙ told-moves s.moves u gots puts s.before_last s.gots_before s.puts_before s.moved
+
+    pub ended-on : (how : End) → answer ≡ Ended how → (d.done v ≡ true) × (d.fin v ≡ Some how)
+    ended-on how e =
+        let is = answer_behind-ended s.moves s.last_answer how (sym s.answers ∙ e) in
+        ended-act s.last.act v how (subst (λ a. Answers d v s.last.act a) is s.last.answers)

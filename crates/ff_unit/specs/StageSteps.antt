@@ -1,5 +1,5 @@
 -- How a unit steps that runs a node between its in and its out: a stage, and what puts more behind the sends of each record.
-use Rattle.std.specs.Prelude.{◌≡◌, ◌⊎◌, true, if◌then◌else◌, List, [], ◌∷◌, ◌++◌, Option, None, Some, IsSome}
+use Rattle.std.specs.Prelude.{◌≡◌, ◌⊎◌, Bool, true, if◌then◌else◌, List, [], ◌∷◌, ◌++◌, Option, None, Some, IsSome}
 use Rattle.ff_rec.specs.Lines.{Rec}
 use Rattle.ff_rec.specs.Streams.{IsOpenMsg, carried}
 use Rattle.ff_rec.specs.declared.msg.Msg.TheVariants.{Item, Mark, Pick, Eos as EosMsg, Abort as AbortMsg}
@@ -11,6 +11,10 @@ use Rattle.ff_port.specs.declared.answers.End.TheVariants.{Eos, Abort, Memory}
 use Rattle.ff_unit.specs.Stage.{StageState}
 use Rattle.ff_unit.specs.declared.mode.Mode.{Mode}
 use Rattle.ff_unit.specs.declared.mode.Mode.TheVariants.{Live, Shut, Cut}
+
+-- what is held behind the sends of a record: a Mark, where that is asked for
+abbrev pub behind_of : Bool → List Message
+behind_of marks = if marks then Mark ∷ [] else []
 
 -- messages with more behind them
 abbrev pub followed : List Message → List Message → List Message

@@ -94,6 +94,30 @@ EndedOnly d u Waits v waiting = Unit {0}
 EndedOnly d u (Ended fin) v waiting =
     (d.done v ≡ true) × (d.fin v ≡ Some fin) × d.Rests v × ((d.done u ≡ true → ⊥) → waiting ≡ 0)
 
+-- so many steps in a row, of which each moved
+abbrev pub Moves : {U : Type 0} → Doing U → ℕ → U → List (List Message) → List (List Message) → U → List (List Message) → List (List Message) → Type 0
+Moves d zero u gots puts v gots' puts' = (v ≡ u) × (gots' ≡ gots) × (puts' ≡ puts)
+Moves {U} d (suc n) u gots puts v gots' puts' =
+    (w : U) × (gs : List (List Message)) × (ps : List (List Message)) × Moves d n u gots puts w gs ps × One d w gs ps Moved v gots' puts'
+
+-- what many steps answer, by their number but the last and by the answer of that one: a unit that moved and then waits has moved
+abbrev pub answer_behind : ℕ → Step → Step
+answer_behind zero answer = answer
+answer_behind (suc n) Moved = Moved
+answer_behind (suc n) Waits = Moved
+answer_behind (suc n) (Ended fin) = Ended fin
+
+-- a unit steps on: while it moves, and then once more
+pub record StepsOn {U : Type 0} (d : Doing U) (u : U) (gots puts : List (List Message)) (answer : Step) (v : U) (gots' puts' : List (List Message)) : Type 0 where
+  pub moves : ℕ
+  pub before_last : U
+  pub gots_before : List (List Message)
+  pub puts_before : List (List Message)
+  pub moved : Moves d moves u gots puts before_last gots_before puts_before
+  pub last_answer : Step
+  pub last : One d before_last gots_before puts_before last_answer v gots' puts'
+  pub answers : answer ≡ answer_behind moves last_answer
+
 -- a unit that has ended does nothing more
 pub record StaysAt {U : Type 0} (u : U) (gots puts : List (List Message)) (v : U) (gots' puts' : List (List Message)) : Type 0 where
   pub unit : v ≡ u

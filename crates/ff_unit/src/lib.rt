@@ -14,6 +14,7 @@ mod places;
 mod runner;
 mod stage;
 mod takes;
+mod threaded;
 mod unit;
 
 pub use closing::{last_message, spoil};
@@ -27,4 +28,5 @@ pub use places::take_out;
 pub use runner::NodeRunner;
 pub use stage::Stage;
 pub use takes::take_any;
+pub use threaded::Threaded;
 pub use unit::Unit;

@@ -16,7 +16,7 @@ use std::alloc::Global;
 use std::marker::Model;
 
 /// What runs a node: it takes messages at an in, and puts what the node sends at an out. A stage is one, and so is a unit that puts
-/// something behind the sends of each record.
+/// a Mark behind the sends of each record.
 pub struct NodeRunner<N> {
     node: N,
     // What is to be put: a message in front, the records that the node sent, and a message behind.

@@ -45,7 +45,7 @@ impl<N: Node> Unit for Stage<N> {
 
     #[inline(always)]
     fn step_once<P: Ports<Record>>(&mut self, ports: &mut P) -> Step {
-        self.runner.step(None, ports)
+        self.runner.step(false, ports)
     }
 
     fn end_aborted(&mut self) {

@@ -3,12 +3,15 @@ use crate::aborts::put_aborts;
 use ff_port::{End, Ports, Step};
 use ff_rec::Record;
 
+// So many steps are made at once at most.
+const MOST_AT_ONCE: u32 = 1024;
+
 /// A unit of a network: it takes messages at its ins and puts messages at its outs, one at a time.
 pub trait Unit: Drop {
     ghost use Rattle.std.specs.Prelude.{◌≡◌, ◌⊎◌, ◌<◌, ℕ, List, true, [], ◌∷◌, replicate, slice_index};
     ghost use Rattle.ff_rec.specs.declared.msg.Msg.TheVariants.{Abort as AbortMsg};
     ghost use Rattle.ff_node.specs.Runs.{Message, FitsWhole};
-    ghost use Rattle.ff_unit.specs.Units.{Doing, IsUnit, Ran, One, WaitsOnly, EndedOnly};
+    ghost use Rattle.ff_unit.specs.Units.{Doing, IsUnit, Ran, One, StepsOn, WaitsOnly, EndedOnly};
     ghost use Rattle.ff_unit.specs.Units.{known, end_of, HandsReject, HasRejects, TookAbort, StaysAt};
 
     /// What it does, by what is seen of it.
@@ -79,6 +82,28 @@ pub trait Unit: Drop {
             self.new (P.gots ports.new) (P.puts ports.new) }
     {
         self.step_once(ports)
+    }
+
+    /// Steps on while it moves, 1,024 times at most: a thread that asks for many steps at once chooses once what the unit is. The
+    /// answer is that of the last step; but where it moved and waits then, it is that it moved.
+    #[inline(never)]
+    final fn step_on<P: Ports<Record>>(&mut self, ports: &mut P) -> Step
+        requires { Ran does self.old (P.gots ports.old) (P.puts ports.old) }
+        ensures steps { StepsOn does self.old (P.gots ports.old) (P.puts ports.old)
+            result self.new (P.gots ports.new) (P.puts ports.new) }
+        ensures waits { WaitsOnly does self.old result
+            (known (P.knowns ports.old) (P.rooms ports.old) (P.waiting ports.old))
+            (known (P.knowns ports.new) (P.rooms ports.new) (P.waiting ports.new)) }
+        ensures link { P.link ports.new ≡ P.link ports.old }
+    {
+        for k in 0..MOST_AT_ONCE {
+            match self.step(ports) {
+                Step::Moved => {}
+                Step::Waits if k > 0 => return Step::Moved,
+                answer => return answer,
+            }
+        }
+        Step::Moved
     }
 
     /// Tells a unit that made no step to end: it puts Abort on each out.

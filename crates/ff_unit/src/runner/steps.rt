@@ -1,7 +1,7 @@
 // How a runner of a node steps.
 ghost use Rattle.std.specs.Prelude.{◌≡◌, [], true, false, Some, None, length, IsSome};
-ghost use Rattle.std.specs.Option.{option_to_list};
 ghost use Rattle.ff_unit.specs.StagePorts.{StageReady};
+ghost use Rattle.ff_unit.specs.StageSteps.{behind_of};
 ghost use Rattle.ff_unit.specs.StageUnit.{runner_does, stage_does};
 ghost use Rattle.ff_unit.specs.Units.{known, One, WaitsOnly, EndedOnly, StaysAt};
 
@@ -14,11 +14,11 @@ use ff_rec::{Msg, Record};
 
 impl<N: Node> NodeRunner<N> {
     /// One step: it puts the first message that it holds, or else takes one, or flushes its out and ends. Behind the sends of a
-    /// record that the node takes and goes on after it holds `behind`.
+    /// record that the node takes and goes on after it holds a Mark, where `marks` says so.
     #[inline(always)]
-    pub fn step<P: Ports<Record>>(&mut self, behind: Option<Msg<Record>>, ports: &mut P) -> Step
+    pub fn step<P: Ports<Record>>(&mut self, marks: bool, ports: &mut P) -> Step
         requires { StageReady self.old (P.gots ports.old) (P.puts ports.old) }
-        ensures one { One (runner_does N.does (option_to_list behind))
+        ensures one { One (runner_does N.does (behind_of marks))
             self.old (P.gots ports.old) (P.puts ports.old)
             result self.new (P.gots ports.new) (P.puts ports.new) }
         ensures waits { WaitsOnly (stage_does N.does) self.old result
@@ -32,7 +32,7 @@ impl<N: Node> NodeRunner<N> {
         ensures link { P.link ports.new ≡ P.link ports.old }
     {
         match take_held(&mut self.front, &mut self.sends, &mut self.back) {
-            None => self.go_on(behind, ports),
+            None => self.go_on(marks, ports),
             Some(m) => match ports.try_put(0, m) {
                 Put::Done => Step::Moved,
                 Put::Full(m) => {
@@ -52,11 +52,11 @@ impl<N: Node> NodeRunner<N> {
 
     // A step while nothing is held.
     #[inline(always)]
-    fn go_on<P: Ports<Record>>(&mut self, behind: Option<Msg<Record>>, ports: &mut P) -> Step
+    fn go_on<P: Ports<Record>>(&mut self, marks: bool, ports: &mut P) -> Step
         requires held { self.old.held ≡ [] }
         requires one_in { length (P.gots ports.old) ≡ 1 }
         requires done { self.old.done ≡ true → IsSome self.old.fin }
-        ensures one { One (runner_does N.does (option_to_list behind))
+        ensures one { One (runner_does N.does (behind_of marks))
             self.old (P.gots ports.old) (P.puts ports.old)
             result self.new (P.gots ports.new) (P.puts ports.new) }
         ensures waits { WaitsOnly (stage_does N.does) self.old result
@@ -70,7 +70,7 @@ impl<N: Node> NodeRunner<N> {
         ensures link { P.link ports.new ≡ P.link ports.old }
     {
         match self.fin {
-            None => self.take_one(behind, ports),
+            None => self.take_one(marks, ports),
             Some(fin) if self.done => Step::Ended(fin),
             Some(fin) => self.finish(fin, ports),
         }
@@ -78,11 +78,11 @@ impl<N: Node> NodeRunner<N> {
 
     // Takes from the in.
     #[inline(always)]
-    fn take_one<P: Ports<Record>>(&mut self, behind: Option<Msg<Record>>, ports: &mut P) -> Step
+    fn take_one<P: Ports<Record>>(&mut self, marks: bool, ports: &mut P) -> Step
         requires held { self.old.held ≡ [] }
         requires fin { self.old.fin ≡ None }
         requires one_in { length (P.gots ports.old) ≡ 1 }
-        ensures one { One (runner_does N.does (option_to_list behind))
+        ensures one { One (runner_does N.does (behind_of marks))
             self.old (P.gots ports.old) (P.puts ports.old)
             result self.new (P.gots ports.new) (P.puts ports.new) }
         ensures waits { WaitsOnly (stage_does N.does) self.old result
@@ -95,7 +95,7 @@ impl<N: Node> NodeRunner<N> {
         match ports.try_take(0) {
             None => Step::Waits,
             Some(m) => {
-                self.receive(m, behind);
+                self.receive(m, marks);
                 Step::Moved
             }
         }

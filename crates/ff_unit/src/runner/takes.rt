@@ -1,9 +1,8 @@
 // What a runner of a node does with the messages that it takes.
 ghost use Rattle.std.specs.Prelude.{◌≡◌, ◌⊎◌, [], ◌∷◌, None, Some};
-ghost use Rattle.std.specs.Option.{option_to_list};
 ghost use Rattle.ff_rec.specs.declared.msg.Msg.TheVariants.{Abort as AbortMsg};
 ghost use Rattle.ff_unit.specs.StageParts.{given_up};
-ghost use Rattle.ff_unit.specs.StageSteps.{GivesUp, works, closes, LiveTakes, ShutTakes, CutTakes, StageTakes};
+ghost use Rattle.ff_unit.specs.StageSteps.{GivesUp, behind_of, works, closes, LiveTakes, ShutTakes, CutTakes, StageTakes};
 
 use super::NodeRunner;
 use crate::Mode;
@@ -14,26 +13,26 @@ use ff_rec::{Msg, Record};
 impl<N: Node> NodeRunner<N> {
     /// Takes a message, while nothing is held.
     #[inline(always)]
-    pub(super) fn receive(&mut self, m: Msg<Record>, behind: Option<Msg<Record>>)
+    pub(super) fn receive(&mut self, m: Msg<Record>, marks: bool)
         requires held { self.old.held ≡ [] }
         requires fin { self.old.fin ≡ None }
-        ensures { StageTakes N.does (option_to_list behind) self.old.mode self.old m self.new }
+        ensures { StageTakes N.does (behind_of marks) self.old.mode self.old m self.new }
     {
         match self.mode {
-            Mode::Live => self.receive_live(m, behind),
+            Mode::Live => self.receive_live(m, marks),
             Mode::Shut => self.receive_shut(m),
             Mode::Cut => self.receive_cut(m),
         }
     }
 
     #[inline(always)]
-    fn receive_live(&mut self, m: Msg<Record>, behind: Option<Msg<Record>>)
+    fn receive_live(&mut self, m: Msg<Record>, marks: bool)
         requires held { self.old.held ≡ [] }
         requires fin { self.old.fin ≡ None }
-        ensures { LiveTakes N.does (option_to_list behind) self.old m self.new }
+        ensures { LiveTakes N.does (behind_of marks) self.old m self.new }
     {
         match m {
-            Msg::Item(r) => self.work(r, behind),
+            Msg::Item(r) => self.work(r, marks),
             Msg::Mark => self.back = Some(Msg::Mark),
             Msg::Pick(_) => {}
             Msg::Eos => self.close(),
@@ -65,20 +64,19 @@ impl<N: Node> NodeRunner<N> {
         }
     }
 
-    // The node takes a record: behind its sends `behind` is held.
+    // The node takes a record: behind its sends a Mark is held, where `marks` says so.
     #[inline(always)]
-    fn work(&mut self, r: Record, behind: Option<Msg<Record>>)
+    fn work(&mut self, r: Record, marks: bool)
         requires held { self.old.held ≡ [] }
         requires fin { self.old.fin ≡ None }
-        ensures { (self.new ≡ works N.does (option_to_list behind) self.old r)
+        ensures { (self.new ≡ works N.does (behind_of marks) self.old r)
             ⊎ GivesUp N.does self.old None self.new }
     {
         let keeps = self.sends.keeps();
         match node_step(&mut self.node, r, &mut self.sends) {
             Ok(Next::GoOn) => {
-                // Where there is none, nothing is held there already, and what isn't written costs nothing.
-                if let Some(m) = behind {
-                    self.back = Some(m);
+                if marks {
+                    self.back = Some(Msg::Mark);
                 }
             }
             Ok(Next::Eos) => {
