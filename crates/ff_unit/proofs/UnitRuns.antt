@@ -6,7 +6,7 @@ use Rattle.ff_node.specs.Runs.{Message, Act, Took, Gave, Refused, Idle, Told, Ha
 use Rattle.ff_port.specs.declared.answers.End.{End}
 use Rattle.ff_port.specs.declared.answers.Step.{Step}
 use Rattle.ff_port.specs.declared.answers.Step.TheVariants.{Moved, Waits, Ended}
-use Rattle.ff_unit.specs.Units.{Doing, IsUnit, Ran, RanFrom, One, Moves, StepsOn, Answers, HandsReject, taken_by, told_by, idle_answer, answer_behind}
+use Rattle.ff_unit.specs.Units.{Doing, IsUnit, Ran, RanFrom, One, Moves, StepsOn, Answers, HandsReject, EndsAs, taken_by, told_by, idle_answer, answer_behind}
 
 module _ {U : Type 0} (d : Doing U) (laws : IsUnit d) where
   -- one act more
@@ -93,25 +93,25 @@ module _ {U : Type 0} (d : Doing U) (laws : IsUnit d) where
   told-moves (suc n) u gots puts v gots' puts' m =
       told-one m.0 m.1 m.2 Moved v gots' puts' m.4 ∙ told-moves n u gots puts m.0 m.1 m.2 m.3
 
-  -- an answer that tells an end
-  idle_answer-ended : (done : Bool) (fin : Option End) (how : End) → Ended how ≡ idle_answer done fin → (done ≡ true) × (fin ≡ Some how)
-  idle_answer-ended true (Some fin) how e = (refl, cc e)
-  idle_answer-ended true None how e = absurd (cc e)
-  idle_answer-ended false fin how e = absurd (cc e)
+  -- an act tells an end only where the unit has ended so
+  EndsAs-idle : (v : U) (done : Bool) (fin : Option End) → d.done v ≡ done → d.fin v ≡ fin → EndsAs d (idle_answer done fin) v
+  EndsAs-idle v true (Some fin) done_is fin_is = (done_is, fin_is)
+  EndsAs-idle v true None done_is fin_is = tt
+  EndsAs-idle v false fin done_is fin_is = tt
 
-  ended-act : (act : Act) (v : U) (how : End) → Answers d v act (Ended how) → (d.done v ≡ true) × (d.fin v ≡ Some how)
-  ended-act (Took k m) v how a = absurd (cc a)
-  ended-act (Gave k m) v how a = absurd (cc a)
-  ended-act Refused v how a = absurd (cc a)
-  ended-act Idle v how a = idle_answer-ended (d.done v) (d.fin v) how a
-  ended-act Told v how a = absurd a
-  ended-act (Handed x) v how a = absurd a
+  EndsAs-act : (act : Act) (v : U) (answer : Step) → Answers d v act answer → EndsAs d answer v
+  EndsAs-act (Took k m) v answer a = subst (λ x. EndsAs d x v) (sym a) tt
+  EndsAs-act (Gave k m) v answer a = subst (λ x. EndsAs d x v) (sym a) tt
+  EndsAs-act Refused v answer a = subst (λ x. EndsAs d x v) (sym a) tt
+  EndsAs-act Idle v answer a = subst (λ x. EndsAs d x v) (sym a) (EndsAs-idle v (d.done v) (d.fin v) refl refl)
+  EndsAs-act Told v answer a = absurd a
+  EndsAs-act (Handed x) v answer a = absurd a
 
-  answer_behind-ended : (n : ℕ) (answer : Step) (how : End) → answer_behind n answer ≡ Ended how → answer ≡ Ended how
-  answer_behind-ended zero answer how e = e
-  answer_behind-ended (suc n) Moved how e = absurd (cc e)
-  answer_behind-ended (suc n) Waits how e = absurd (cc e)
-  answer_behind-ended (suc n) (Ended fin) how e = e
+  EndsAs-behind : (n : ℕ) (answer : Step) (v : U) → EndsAs d answer v → EndsAs d (answer_behind n answer) v
+  EndsAs-behind zero answer v e = e
+  EndsAs-behind (suc n) Moved v e = tt
+  EndsAs-behind (suc n) Waits v e = tt
+  EndsAs-behind (suc n) (Ended fin) v e = e
 
   -- moves alone
   answer_behind-moved : (n : ℕ) → answer_behind n Moved ≡ Moved
@@ -153,7 +153,6 @@ module _ {U : Type 0} (d : Doing U) (laws : IsUnit d) where
         told-one s.before_last s.gots_before s.puts_before s.last_answer v gots' puts' s.last
         ∙ told-moves s.moves u gots puts s.before_last s.gots_before s.puts_before s.moved
 
-    pub ended-on : (how : End) → answer ≡ Ended how → (d.done v ≡ true) × (d.fin v ≡ Some how)
-    ended-on how e =
-        let is = answer_behind-ended s.moves s.last_answer how (sym s.answers ∙ e) in
-        ended-act s.last.act v how (subst (λ a. Answers d v s.last.act a) is s.last.answers)
+    pub EndsAs-on : EndsAs d answer v
+    EndsAs-on =
+        subst (λ x. EndsAs d x v) (sym s.answers) (EndsAs-behind s.moves s.last_answer v (EndsAs-act s.last.act v s.last_answer s.last.answers))

@@ -94,6 +94,12 @@ EndedOnly d u Waits v waiting = Unit {0}
 EndedOnly d u (Ended fin) v waiting =
     (d.done v ≡ true) × (d.fin v ≡ Some fin) × d.Rests v × ((d.done u ≡ true → ⊥) → waiting ≡ 0)
 
+-- a unit has ended as the answer tells, where it tells an end
+abbrev pub EndsAs : {U : Type 0} → Doing U → Step → U → Type 0
+EndsAs d Moved v = Unit {0}
+EndsAs d Waits v = Unit {0}
+EndsAs d (Ended fin) v = (d.done v ≡ true) × (d.fin v ≡ Some fin)
+
 -- so many steps in a row, of which each moved
 abbrev pub Moves : {U : Type 0} → Doing U → ℕ → U → List (List Message) → List (List Message) → U → List (List Message) → List (List Message) → Type 0
 Moves d zero u gots puts v gots' puts' = (v ≡ u) × (gots' ≡ gots) × (puts' ≡ puts)

@@ -1,12 +1,12 @@
 // Units as threads run them.
 use crate::Unit;
-use ff_port::{End, Ports, Step};
+use ff_port::{Ports, Step};
 use ff_rec::Record;
 
 /// A unit that a thread of its own runs: one of several kinds, which makes many steps as the kind that it is.
 pub trait Threaded: Unit {
-    ghost use Rattle.std.specs.Prelude.{◌≡◌, true, Some};
-    ghost use Rattle.ff_unit.specs.Units.{Ran, StepsOn, WaitsOnly, known};
+    ghost use Rattle.std.specs.Prelude.{◌≡◌};
+    ghost use Rattle.ff_unit.specs.Units.{Ran, StepsOn, EndsAs, WaitsOnly, known};
 
     /// Many steps, without what follows from the whole run: call `advance`.
     fn step_many<P: Ports<Record>>(&mut self, ports: &mut P) -> Step
@@ -28,8 +28,7 @@ pub trait Threaded: Unit {
         ensures start { Self.does.opening self.new ≡ Self.does.opening self.old }
         ensures taken { Self.does.taken self.new ≡ Self.does.taken self.old }
         ensures told { Self.does.told self.new ≡ Self.does.told self.old }
-        ensures ended { (fin : End) → result ≡ Step.Ended fin
-            → (Self.does.done self.new ≡ true) × (Self.does.fin self.new ≡ Some fin) }
+        ensures ended { EndsAs Self.does result self.new }
         ensures waits { WaitsOnly Self.does self.old result
             (known (P.knowns ports.old) (P.rooms ports.old) (P.waiting ports.old))
             (known (P.knowns ports.new) (P.rooms ports.new) (P.waiting ports.new)) }
