@@ -10,12 +10,12 @@ use crate::settling::settle_jobs;
 use ff_rec::Record;
 use ff_ring::{RingIn, RingOut};
 use ff_spawn::{RunningJobs, Spawner};
-use ff_unit::Unit;
+use ff_unit::Threaded;
 use std::marker::Model;
 use std::sync::Wait;
 
 /// Jobs that run, over rings. Contracts see them as they were when they were started. `join` alone spends it.
-pub(crate) struct Crew<U: Unit, R: Wait + Drop> {
+pub(crate) struct Crew<U: Threaded, R: Wait + Drop> {
     running: RunningJobs<NetJob<U, R>>,
     // Room for the jobs, once they have ended, and for their units.
     jobs: Vec<NetJob<U, R>>,
@@ -24,7 +24,7 @@ pub(crate) struct Crew<U: Unit, R: Wait + Drop> {
     board: Board,
 }
 
-impl<U: Unit, R: Wait + Drop> Model for Crew<U, R> {
+impl<U: Threaded, R: Wait + Drop> Model for Crew<U, R> {
     ghost use Rattle.std.specs.Prelude.{List, [], ◌≤◌, ◌≡◌, length, map, vec_capacity};
     ghost use Rattle.ff_engine.specs.Jobs.{JobState};
     ghost use Rattle.ff_engine.specs.Lines.{IsWired};
@@ -39,7 +39,7 @@ impl<U: Unit, R: Wait + Drop> Model for Crew<U, R> {
         × (length c.board.outs.items ≡ length c.board.ins.items) };
 }
 
-impl<U: Unit + Send + 'static, R: Wait + Drop + Send + 'static> Crew<U, R> {
+impl<U: Threaded + Send + 'static, R: Wait + Drop + Send + 'static> Crew<U, R> {
     ghost use Rattle.std.specs.Prelude.{[], vec_capacity};
 
     /// The jobs that run, with room for them, for their units and for their ends.

@@ -10,7 +10,7 @@ use ff_port::OwnPorts;
 use ff_rec::Record;
 use ff_ring::{Pause, RingIn, RingOut};
 use ff_spawn::Job;
-use ff_unit::Unit;
+use ff_unit::{Threaded, Unit};
 use std::marker::Model;
 use std::sync::Wait;
 
@@ -114,7 +114,7 @@ impl<U: Unit, R: Drop> NetJob<U, R> {
     }
 }
 
-impl<U: Unit, R: Wait + Drop> Job for NetJob<U, R> {
+impl<U: Threaded, R: Wait + Drop> Job for NetJob<U, R> {
     ghost use Rattle.ff_engine.specs.Jobs.{HasWorked, handled};
 
     ghost done = { HasWorked U.does };

@@ -21,7 +21,7 @@ use ff_rec::NoMemory;
 use ff_ring::{Pause, Spins};
 use ff_spawn::{Denial, RunningJobs, Spawner};
 use ff_steps::{NetUnit, make_units};
-use ff_unit::Unit;
+use ff_unit::Threaded;
 use std::alloc::Global;
 use std::sync::Wait;
 
@@ -76,7 +76,7 @@ pub(crate) fn prepare<N: Node + Send + 'static, R: Wait + Clone + Drop + Send + 
 
 // Room for so many jobs while they run. It is a call of its own, since that jobs may go to another thread is shown for any
 // units that may.
-fn running_room<U: Unit + Send + 'static, R: Wait + Drop + Send + 'static>(
+fn running_room<U: Threaded + Send + 'static, R: Wait + Drop + Send + 'static>(
     alloc: Global,
     count: usize,
 ) -> Result<RunningJobs<NetJob<U, R>>, NoMemory>
@@ -87,7 +87,7 @@ fn running_room<U: Unit + Send + 'static, R: Wait + Drop + Send + 'static>(
 
 /// Starts all jobs. Where that can't be done, those that were started are ended and joined.
 pub(crate) fn start<
-    U: Unit + Send + 'static,
+    U: Threaded + Send + 'static,
     R: Wait + Drop + Send + 'static,
     S: Spawner<NetJob<U, R>>,
 >(
@@ -129,7 +129,11 @@ pub(crate) fn start<
 }
 
 // Ends the jobs of which not all could be started: those that were see an Abort from those that weren't.
-fn break_up<U: Unit + Send + 'static, R: Wait + Drop + Send + 'static, S: Spawner<NetJob<U, R>>>(
+fn break_up<
+    U: Threaded + Send + 'static,
+    R: Wait + Drop + Send + 'static,
+    S: Spawner<NetJob<U, R>>,
+>(
     caller: &mut Caller,
     rt: &R,
     running: RunningJobs<NetJob<U, R>>,

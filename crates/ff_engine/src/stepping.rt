@@ -6,11 +6,11 @@ ghost use Rattle.ff_unit.specs.Units.{Ran};
 use ff_port::{Ports, Step};
 use ff_rec::Record;
 use ff_ring::Pause;
-use ff_unit::Unit;
+use ff_unit::Threaded;
 use std::sync::Wait;
 
 /// Steps the unit until it has ended.
-pub(crate) fn run_unit<U: Unit, P: Ports<Record>, R: Wait>(
+pub(crate) fn run_unit<U: Threaded, P: Ports<Record>, R: Wait>(
     unit: &mut U,
     ports: &mut P,
     pause: &mut Pause,
@@ -26,7 +26,7 @@ pub(crate) fn run_unit<U: Unit, P: Ports<Record>, R: Wait>(
 {
     let mut moved = false;
     for _ in rt.forever() {
-        match unit.step(ports) {
+        match unit.advance(ports) {
             Step::Moved => {
                 // Only the first move behind a pause has anything to reset.
                 if !moved {

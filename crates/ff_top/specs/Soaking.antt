@@ -44,7 +44,7 @@ soak_refused n NoMemory = n
 
 -- so many threads more were started as there are units, or more, and they handled as many messages as there are records and units
 -- together, or more
-pub record Threaded (n w started started_now handled handled_now : ℕ) : Type 0 where
+pub record RanThreads (n w started started_now handled handled_now : ℕ) : Type 0 where
   pub starts : RoseBy (units (soak_net (workers_within w))) started started_now
   pub worked : RoseBy (units (soak_net (workers_within w)) + records_within n) handled handled_now
 
@@ -55,11 +55,11 @@ LeavesPart Write before now bytes = AppendsPrefix before now bytes
 LeavesPart NoMemory before now bytes = now ≡ before
 
 -- the threads had done their work where the summary was written, or its write failed
-abbrev pub WasThreaded : ℕ → ℕ → ℕ → ℕ → ℕ → ℕ → Result ℕ SoakCause → Type 0
-WasThreaded n w started started_now handled handled_now (Ok k) = Threaded n w started started_now handled handled_now
-WasThreaded n w started started_now handled handled_now (Err Write) = Threaded n w started started_now handled handled_now
-WasThreaded n w started started_now handled handled_now (Err Refused) = Unit {0}
-WasThreaded n w started started_now handled handled_now (Err NoMemory) = Unit {0}
+abbrev pub MayHaveRanThreads : ℕ → ℕ → ℕ → ℕ → ℕ → ℕ → Result ℕ SoakCause → Type 0
+MayHaveRanThreads n w started started_now handled handled_now (Ok k) = RanThreads n w started started_now handled handled_now
+MayHaveRanThreads n w started started_now handled handled_now (Err Write) = RanThreads n w started started_now handled handled_now
+MayHaveRanThreads n w started started_now handled handled_now (Err Refused) = Unit {0}
+MayHaveRanThreads n w started started_now handled handled_now (Err NoMemory) = Unit {0}
 
 -- the summary was written with this answer: all of it, a part or nothing; no record is rejected
 pub record Soaks (n : ℕ) (before now : Option (List ℕ)) (faults faults_now refused refused_now : ℕ) (answer : Result ℕ SoakCause) : Type 0 where
@@ -72,7 +72,7 @@ pub record Soaks (n : ℕ) (before now : Option (List ℕ)) (faults faults_now r
 -- how a soak of `n` records by `w` workers ends: nothing was read
 abbrev pub Soaked : ℕ → ℕ → Outside → Outside → Result ℕ SoakCause → Type 0
 Soaked n w before now (Ok k) =
-    (k ≡ 0) × Appends before.taken now.taken (soaked n) × Threaded n w before.starts now.starts before.worked now.worked × ReadsNothing before now
+    (k ≡ 0) × Appends before.taken now.taken (soaked n) × RanThreads n w before.starts now.starts before.worked now.worked × ReadsNothing before now
 Soaked n w before now (Err cause) =
     LeavesPart cause before.taken now.taken (soaked n)
-    × WasThreaded n w before.starts now.starts before.worked now.worked (Err cause) × ReadsNothing before now
+    × MayHaveRanThreads n w before.starts now.starts before.worked now.worked (Err cause) × ReadsNothing before now

@@ -1,7 +1,7 @@
 // The command `soak`, which runs a network over records that it makes.
 ghost use Rattle.std.specs.Prelude.{◌≡◌};
 ghost use Rattle.ff_top.specs.Messages.{soak_message, soak_status, Writes};
-ghost use Rattle.ff_top.specs.Soaking.{Soaks, WasThreaded};
+ghost use Rattle.ff_top.specs.Soaking.{Soaks, MayHaveRanThreads};
 
 use crate::pieces::{write_full, write_memory, write_piece};
 use ff_engine::{NetJob, NetUnit};
@@ -64,7 +64,7 @@ pub fn write_soak<
 ) -> Result<u64, SoakCause>
     ensures soaks { Soaks n (O.taken out.old) (O.taken out.new) (O.faults out.old) (O.faults out.new)
         (S.refused spawner.old) (S.refused spawner.new) result }
-    ensures threads { WasThreaded n workers (S.starts spawner.old) (S.starts spawner.new)
+    ensures threads { MayHaveRanThreads n workers (S.starts spawner.old) (S.starts spawner.new)
         (S.worked spawner.old) (S.worked spawner.new) result }
 {
     // The words allow no other numbers. The bounds tell the prover so.
