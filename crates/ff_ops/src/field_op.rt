@@ -47,7 +47,7 @@ pub enum FieldOp {
 }
 
 impl FieldOp {
-    // Sends what the row says, or rejects the record. It stands apart, so that a record that is sent as it came passes it by.
+    // Sends what the row says, or rejects the record. It stands apart, so that a record that `id` takes passes it by.
     #[inline(never)]
     fn answer(&self, r: Record, out: &mut Sends) -> Result<(), NoMemory>
         ensures { OnOk result (out.new ≡ answered out.old (field_answer self.now r) r) }
@@ -115,7 +115,7 @@ impl Node for FieldOp {
 
     fn svc_init(&mut self) {}
 
-    // Always inline: a record that is handed on through memory is moved once more.
+    // Always inline: what `id` takes is sent on without a way through memory.
     #[inline(always)]
     fn svc(&mut self, r: Record, out: &mut Sends) -> Result<Next, NoMemory> {
         match self {

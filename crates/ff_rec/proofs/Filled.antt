@@ -1,15 +1,15 @@
 -- An array that is filled in part: what stands in it after parts were moved and written over.
-use Rattle.std.proofs.Common.{◌≡◌, ℕ, ◌+◌, ◌-◌, ◌≤◌, List, ◌++◌, length, take, drop, slice_range, sym, ap, ap₂, ◌∙◌, append_assoc, arith, length-append, length-drop}
+use Rattle.std.proofs.Common.{◌≡◌, ℕ, ◌+◌, ◌-◌, ◌≤◌, List, ◌++◌, length, take, drop, slice_range, sym, ap, ap₂, ◌∙◌, append_assoc, arith, length-append, length-drop, take-append-drop}
 use Rattle.std.specs.List.{copy_within}
 use Rattle.std.proofs.lemmas.List.{take-take, take_at, drop_at, take-append-le, length-take-le, drop-drop}
 use Rattle.std.proofs.lemmas.Slice.{between_is}
 use borrow.Rule.Slice.PartMut.{put_mid}
 
 -- a range of the filled part
-slice_range-take : (d : List ℕ) (s e len : ℕ) → e ≤ len → slice_range (take len d) s e ≡ slice_range d s e
+pub slice_range-take : (d : List ℕ) (s e len : ℕ) → e ≤ len → slice_range (take len d) s e ≡ slice_range d s e
 slice_range-take d s e len low = between_is (take len d) s e ∙ ap (drop s) (take-take e len d low) ∙ sym (between_is d s e)
 
-length-slice_range : (d : List ℕ) (s e : ℕ) → e ≤ length d → length (slice_range d s e) ≡ e - s
+pub length-slice_range : (d : List ℕ) (s e : ℕ) → e ≤ length d → length (slice_range d s e) ≡ e - s
 length-slice_range d s e low = length-take-le (e - s) (drop s d) (omega (arith, length-drop s d))
 
 -- a part moved to the front
@@ -46,4 +46,19 @@ take-replaced d by s e len k order low within room is =
     ap (take (last + (len - e))) (ap₂ (λ (x y : List ℕ). x ++ (by ++ y)) front rest ∙ regroup)
     ∙ take_at (take s d ++ (by ++ part)) more (last + (len - e))
     (omega (arith, length-append (take s d) (by ++ part), length-append by part, length-take-le s d (omega arith)))
+    ∙ ap₂ (λ (x y : List ℕ). x ++ (by ++ y)) (sym (take-take s len d (omega arith))) (between_is d e len)
+
+-- as many other bytes written over a part
+pub take-put_mid : (d by : List ℕ) (s e len : ℕ) → s ≤ e → e ≤ len → len ≤ length d → length by ≡ e - s
+    → take len (put_mid s (e - s) d by) ≡ take s (take len d) ++ (by ++ drop e (take len d))
+take-put_mid d by s e len order low within is =
+    let part = slice_range d e len in
+    let more = drop (len - e) (drop e d) in
+    let rest : drop (e - s) (drop s d) ≡ part ++ more =
+    drop-drop (e - s) s d ∙ ap (λ (n : ℕ). drop n d) (let h : s + (e - s) ≡ e = omega arith in h) ∙ sym (take-append-drop (len - e) (drop e d)) in
+    let regroup : take s d ++ (by ++ (part ++ more)) ≡ (take s d ++ (by ++ part)) ++ more =
+    ap (λ (q : List ℕ). take s d ++ q) (sym (append_assoc by part more)) ∙ sym (append_assoc (take s d) (by ++ part) more) in
+    ap (take len) (ap (λ (q : List ℕ). take s d ++ (by ++ q)) rest ∙ regroup)
+    ∙ take_at (take s d ++ (by ++ part)) more len
+    (omega (arith, length-append (take s d) (by ++ part), length-append by part, length-take-le s d (omega arith), length-slice_range d e len within))
     ∙ ap₂ (λ (x y : List ℕ). x ++ (by ++ y)) (sym (take-take s len d (omega arith))) (between_is d e len)

@@ -13,6 +13,7 @@ pub mod Contents
 pub mod Block
 pub mod Stored
 pub mod Held
+pub mod Cases
 pub mod Streams
 pub mod Reading
 pub mod Limits

@@ -8,7 +8,7 @@ mod edits;
 
 use crate::bytes::Bytes;
 use crate::{NoMemory, split_near};
-pub use edits::{exchange, keep, take_out};
+pub use edits::{exchange, keep, set_case, take_out};
 
 /// Where field `k` of a block of `count` fields, counted from 0, begins and ends.
 #[inline]

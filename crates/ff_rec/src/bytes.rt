@@ -1,6 +1,7 @@
 // The bytes of a record and the number of its fields: in place where the bytes are few, else in one heap block.
 ghost use Rattle.std.specs.Prelude.{◌≡◌, ◌+◌, ◌++◌, ◌<◌, ◌≤◌, length, take, drop, slice_range, IfOk, OnOk, OnErr, IsErrOf};
 ghost use Rattle.ff_rec.specs.Block.{parts_swapped, replaced};
+ghost use Rattle.ff_rec.specs.Cases.{in_case};
 ghost use Rattle.ff_rec.specs.Lines.{tabs};
 ghost use Rattle.ff_rec.specs.Stored.{stored_as};
 ghost use Rattle.ff_rec.specs.declared.fault.CutFault.TheVariants.{TooManyFields};
@@ -10,7 +11,7 @@ mod parts;
 mod short;
 
 use crate::tabs::count_tabs;
-use crate::{CutFault, MOST_FIELDS, NoMemory};
+use crate::{Case, CutFault, MOST_FIELDS, NoMemory};
 use long::{keep, narrow, replace};
 use parts::swap_parts;
 pub use short::SHORT;
@@ -166,6 +167,20 @@ impl Bytes {
                 Ok(())
             }
             Held::Many(_, block) => replace(block, start, end, by),
+        }
+    }
+
+    /// Brings the bytes from `start` up to `end` to a case. It takes no memory.
+    #[inline]
+    pub fn set_case(&mut self, start: usize, end: usize, case: Case)
+        requires order { start ≤ end }
+        requires within { end ≤ length self.old.items }
+        ensures { self.new ≡ stored_as (replaced self.old.items start end
+            (in_case case (slice_range self.old.items start end))) self.old.count }
+    {
+        match &mut self.held {
+            Held::Few(_, short) => short.set_case(start, end, case),
+            Held::Many(_, block) => case.put_on(&mut block[start..end]),
         }
     }
 

@@ -1,6 +1,5 @@
 // One field of a record.
-ghost use Rattle.std.specs.Prelude.{◌≡◌, map, IfOk};
-ghost use Rattle.std.specs.Char.{to_ascii_uppercase, to_ascii_lowercase};
+ghost use Rattle.std.specs.Prelude.{◌≡◌, IfOk};
 ghost use Rattle.ff_rec.specs.Lines.{IsPlain};
 ghost use Rattle.ff_rec.specs.Field.{IsFieldAnswer};
 
@@ -56,20 +55,6 @@ impl Field {
         ensures plain { IsPlain result.now }
     {
         self.bytes.as_slice()
-    }
-
-    /// Its small letters of ASCII become capitals.
-    pub fn make_ascii_uppercase(&mut self)
-        ensures { self.new ≡ map to_ascii_uppercase self.old }
-    {
-        self.bytes.as_mut_slice().make_ascii_uppercase();
-    }
-
-    /// Its capitals of ASCII become small letters.
-    pub fn make_ascii_lowercase(&mut self)
-        ensures { self.new ≡ map to_ascii_lowercase self.old }
-    {
-        self.bytes.as_mut_slice().make_ascii_lowercase();
     }
 }
 

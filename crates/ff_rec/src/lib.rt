@@ -3,6 +3,7 @@
 
 mod block;
 mod bytes;
+mod case;
 mod cmp;
 mod fault;
 mod field;
@@ -16,6 +17,7 @@ mod record;
 mod records;
 mod tabs;
 
+pub use case::Case;
 pub use cmp::Cmp;
 pub use fault::{CutFault, FeedFault, FieldFault, Kept, LineFault, NoMemory, PushFault};
 pub use field::Field;

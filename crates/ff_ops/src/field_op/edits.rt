@@ -6,7 +6,7 @@ ghost use Rattle.ff_ops.specs.declared.field_op.FieldOp.TheVariants.{Set, Keep, 
 
 use super::fields::{field_copy, has_field};
 use crate::Fate;
-use ff_rec::{Field, MOST_FIELDS, NoMemory, Record};
+use ff_rec::{Case, Field, MOST_FIELDS, NoMemory, Record};
 
 /// `set F "T"`
 pub(crate) fn set_field(f: usize, text: &Field, r: &mut Record) -> Result<Fate, NoMemory>
@@ -85,11 +85,10 @@ pub(crate) fn set_len(f: usize, r: &mut Record) -> Result<Fate, NoMemory>
 pub(crate) fn set_uppercase(f: usize, r: &mut Record) -> Result<Fate, NoMemory>
     ensures { IfOk result (λ fate. Answers fate (field_answer (Upper f) r.old) r.old r.new) }
 {
-    let Some(mut field) = field_copy(f, r)? else {
+    if !has_field(f, r) {
         return Ok(Fate::Rejected);
-    };
-    field.make_ascii_uppercase();
-    r.set(f, &field)?;
+    }
+    r.set_case(f, Case::Upper);
     Ok(Fate::Sent)
 }
 
@@ -97,10 +96,9 @@ pub(crate) fn set_uppercase(f: usize, r: &mut Record) -> Result<Fate, NoMemory>
 pub(crate) fn set_lowercase(f: usize, r: &mut Record) -> Result<Fate, NoMemory>
     ensures { IfOk result (λ fate. Answers fate (field_answer (Lower f) r.old) r.old r.new) }
 {
-    let Some(mut field) = field_copy(f, r)? else {
+    if !has_field(f, r) {
         return Ok(Fate::Rejected);
-    };
-    field.make_ascii_lowercase();
-    r.set(f, &field)?;
+    }
+    r.set_case(f, Case::Lower);
     Ok(Fate::Sent)
 }

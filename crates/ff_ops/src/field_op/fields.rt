@@ -10,7 +10,7 @@ pub(crate) fn has_field(f: usize, r: &Record) -> bool
     ensures there { IsTrue result → IsThere f r.now }
     ensures missing { result ≡ false → field_at f r.now ≡ None }
 {
-    r.field(f).is_some()
+    1 <= f && f <= r.len()
 }
 
 /// The bytes of field `f`, kept apart from the record.

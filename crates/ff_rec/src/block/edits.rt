@@ -1,10 +1,13 @@
 // Fields of a block that go and change places.
-ghost use Rattle.std.specs.Prelude.{◌≡◌, ◌<◌, ◌≤◌, [], length, slice_index_or};
+ghost use Rattle.std.specs.Prelude.{◌≡◌, ◌<◌, ◌≤◌, [], length, slice_index_or, slice_set};
 ghost use Rattle.std.specs.List.{remove, swap};
+ghost use Rattle.ff_rec.specs.Block.{IsBlock};
+ghost use Rattle.ff_rec.specs.Cases.{in_case};
 ghost use Rattle.ff_rec.specs.Lines.{cut};
 ghost use Rattle.ff_rec.specs.Stored.{stored_as};
 
 use super::place_in;
+use crate::Case;
 use crate::bytes::Bytes;
 
 /// Takes field `k`, counted from 0, out of two or more, with the tab behind it, or the one before it at the end.
@@ -22,6 +25,18 @@ pub fn take_out(block: &mut Bytes, k: usize)
     } else {
         block.remove(start - 1, end);
     }
+}
+
+/// Brings field `k`, counted from 0, to a case.
+pub fn set_case(block: &mut Bytes, k: usize, case: Case)
+    requires block { IsBlock block.old.items block.old.count }
+    requires there { k < length (cut 9 block.old.items) }
+    ensures fields { cut 9 block.new.items
+        ≡ slice_set (cut 9 block.old.items) k (in_case case (slice_index_or (cut 9 block.old.items) k [])) }
+    ensures block { IsBlock block.new.items block.new.count }
+{
+    let (start, end) = place_in(block, k);
+    block.set_case(start, end, case);
 }
 
 /// Leaves the bytes of field `k`, counted from 0, alone.

@@ -1,9 +1,11 @@
 // A few bytes that stand in place.
 ghost use Rattle.std.specs.Prelude.{◌≡◌, ◌+◌, ◌-◌, ◌++◌, ◌≤◌, length, take, drop, slice_range};
 ghost use Rattle.ff_rec.specs.Block.{parts_swapped, replaced};
+ghost use Rattle.ff_rec.specs.Cases.{in_case};
 ghost use Rattle.ff_rec.specs.Lines.{tabs};
 
 use super::parts::swap_parts;
+use crate::Case;
 use crate::tabs::count_few;
 use std::marker::Model;
 
@@ -55,7 +57,7 @@ impl Short {
     {
         let mut room = [0; SHORT];
         room[..line.len()].copy_from_slice(line);
-        let tab_count = count_few(line);
+        let tab_count = count_few(&room[..line.len().next_multiple_of(8).min(SHORT)]);
         let short = Short {
             align: [],
             len: line.len() as u8,
@@ -129,6 +131,16 @@ impl Short {
     {
         self.bytes.copy_within(start..end, 0);
         self.len = (end - start) as u8;
+    }
+
+    /// Brings the bytes from `start` up to `end` to a case.
+    #[inline]
+    pub fn set_case(&mut self, start: usize, end: usize, case: Case)
+        requires order { start ≤ end }
+        requires within { end ≤ length self.old }
+        ensures { self.new ≡ replaced self.old start end (in_case case (slice_range self.old start end)) }
+    {
+        case.put_on(&mut self.bytes[start..end]);
     }
 
     /// Puts two parts in each other's place: that from `first` up to `first_end`, and that behind it from `second` up

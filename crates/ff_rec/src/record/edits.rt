@@ -1,11 +1,12 @@
 // Fields of a record that come, go and change places.
-ghost use Rattle.std.specs.Prelude.{◌≡◌, ◌↔◌, ◌-◌, ◌≤◌, [], ◌∷◌, length, slice_index_or, OnOk, OnErr, IsErrOf};
+ghost use Rattle.std.specs.Prelude.{◌≡◌, ◌↔◌, ◌-◌, ◌≤◌, [], ◌∷◌, length, slice_index_or, slice_set, OnOk, OnErr, IsErrOf};
 ghost use Rattle.std.specs.List.{remove, swap};
+ghost use Rattle.ff_rec.specs.Cases.{in_case};
 ghost use Rattle.ff_rec.specs.declared.fault.PushFault.TheVariants.{Full};
 
 use super::Record;
-use crate::block::{exchange, keep, push_front, take_out};
-use crate::{Field, MOST_FIELDS, NoMemory, PushFault};
+use crate::block::{exchange, keep, push_front, set_case, take_out};
+use crate::{Case, Field, MOST_FIELDS, NoMemory, PushFault};
 
 impl Record {
     /// Adds a first field. After a refusal the record is unchanged.
@@ -50,6 +51,15 @@ impl Record {
         let count = self.block.count();
         take_out(&mut self.block, k - 1);
         self.block.set_count(count - 1);
+    }
+
+    /// Brings the letters of field `k`, counted from 1, to a case. It takes no memory.
+    pub fn set_case(&mut self, k: usize, case: Case)
+        requires low { 1 ≤ k }
+        requires high { k ≤ length self.old }
+        ensures { self.new ≡ slice_set self.old (k - 1) (in_case case (slice_index_or self.old (k - 1) [])) }
+    {
+        set_case(&mut self.block, k - 1, case);
     }
 
     /// Makes field `k`, counted from 1, the only field. It takes no memory.

@@ -1,4 +1,4 @@
-use ff_rec::{Field, FieldFault, Kept};
+use ff_rec::{Field, FieldFault};
 use std::process::Abort;
 use std::test::Fail;
 
@@ -19,23 +19,5 @@ fn holds_any_other_byte(rt: HostRuntime) -> Result<(), Fail> {
         let field = Field::new(rt.alloc(), bytes)?;
         assert_eq!(rt; field.bytes(), bytes);
     }
-    Ok(())
-}
-
-// The field holds the bytes of this text.
-fn expect_text(rt: &impl Abort, field: &Field, want: &str) {
-    assert_eq!(rt; field.bytes(), want.as_bytes());
-}
-
-#[test]
-fn changes_the_case_of_a_copy(rt: HostRuntime) -> Result<(), Fail> {
-    let field = Field::new(rt.alloc(), "@azAZ`[{é".as_bytes())?;
-    let mut upper = field.copy()?;
-    upper.make_ascii_uppercase();
-    expect_text(&rt, &upper, "@AZAZ`[{é");
-    let mut lower = field.copy()?;
-    lower.make_ascii_lowercase();
-    expect_text(&rt, &lower, "@azaz`[{é");
-    expect_text(&rt, &field, "@azAZ`[{é");
     Ok(())
 }

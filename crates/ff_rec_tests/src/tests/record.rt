@@ -1,4 +1,4 @@
-use ff_rec::{CutFault, Field, Kept, MOST_FIELDS, PushFault, Record, print_record, split};
+use ff_rec::{Case, CutFault, Field, Kept, MOST_FIELDS, PushFault, Record, print_record, split};
 use std::alloc::Global;
 use std::process::Abort;
 use std::test::Fail;
@@ -201,6 +201,28 @@ fn remove(rt: &impl Abort, r: &mut Record, k: usize) {
 fn keep_only(rt: &impl Abort, r: &mut Record, k: usize) {
     assert!(rt; 1 <= k && k <= r.len());
     r.keep_only(k);
+}
+
+fn set_case(rt: &impl Abort, r: &mut Record, k: usize, case: Case) {
+    assert!(rt; 1 <= k && k <= r.len());
+    r.set_case(k, case);
+}
+
+#[test]
+fn one_field_changes_its_case(rt: HostRuntime) -> Result<(), Fail> {
+    for (line, want) in [
+        ("aZ\t@azAZ`[{é\tzA[@", "aZ\t@AZAZ`[{é\tza[@"),
+        (
+            "a field that fills a block\t@azAZ`[{é\tzA[@",
+            "a field that fills a block\t@AZAZ`[{é\tza[@",
+        ),
+    ] {
+        let mut r = record_of(rt.alloc(), line.as_bytes())?;
+        set_case(&rt, &mut r, 2, Case::Upper);
+        set_case(&rt, &mut r, 3, Case::Lower);
+        expect_joined(&rt, &r, want);
+    }
+    Ok(())
 }
 
 // A field is kept alone, and is this.
