@@ -49,6 +49,7 @@ impl Unit for ODeal {
 
     ghost does = { deal_does };
 
+    #[inline(always)]
     fn step_once<P: Ports<Record>>(&mut self, ports: &mut P) -> Step {
         self.0.step_once(ports)
     }

@@ -11,10 +11,10 @@ pub enum Put<T> {
     NoMemory(Msg<T>),
 }
 
-/// What a unit did in one step.
+/// What a unit did in one step, or in many in a row.
 #[derive(Clone, Copy, Debug, PartialEq, Eq, Hash)]
 pub enum Step {
-    /// It took or put one message, or a call of it was refused memory.
+    /// It took or put a message, or more in many steps, or a call of it was refused memory.
     Moved,
     /// Each port at which it looked answered nothing.
     Waits,

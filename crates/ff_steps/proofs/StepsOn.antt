@@ -3,12 +3,13 @@ use Rattle.std.specs.Prelude.{◌≡◌, ℕ, zero, suc, List}
 use Rattle.std.proofs.Common.{refl, sym, ap, ap₂, ◌∙◌, subst}
 use Rattle.ff_node.specs.Runs.{Message, Act, Took, Gave, Refused, Idle, Told, Handed}
 use Rattle.ff_port.specs.declared.answers.Step.{Step}
-use Rattle.ff_port.specs.declared.answers.Step.TheVariants.{Moved}
-use Rattle.ff_unit.specs.Units.{Doing, One, Moves, StepsOn, Answers, idle_answer}
+use Rattle.ff_port.specs.declared.answers.Step.TheVariants.{Moved, Waits, Ended}
+use Rattle.ff_unit.specs.Units.{Doing, One, Moves, StepsOn, EndedOnly, Answers, idle_answer}
 
 -- `as_one` is how a unit of the one kind is seen among others
 module _ {U V : Type 0} (d : Doing U) (others : Doing V) (as_one : U → V) (acts : (u : U) (act : Act) (v : U) → d.Steps u act v → others.Steps (as_one u) act (as_one v))
-    (done : (u : U) → others.done (as_one u) ≡ d.done u) (fin : (u : U) → others.fin (as_one u) ≡ d.fin u) where
+    (done : (u : U) → others.done (as_one u) ≡ d.done u) (fin : (u : U) → others.fin (as_one u) ≡ d.fin u)
+    (rests : (u : U) → d.Rests u → others.Rests (as_one u)) where
   Answers-whole : (act : Act) (v : U) (answer : Step) → Answers d v act answer → Answers others (as_one v) act answer
   Answers-whole (Took k m) v answer a = a
   Answers-whole (Gave k m) v answer a = a
@@ -33,9 +34,14 @@ module _ {U V : Type 0} (d : Doing U) (others : Doing V) (as_one : U → V) (act
   Moves-whole (suc n) u gots puts v gots' puts' m =
       (as_one m.0, m.1, m.2, Moves-whole n u gots puts m.0 m.1 m.2 m.3, One-whole m.0 m.1 m.2 Moved v gots' puts' m.4)
 
-  StepsOn-whole : (u : U) (gots puts : List (List Message)) (answer : Step) (v : U) (gots' puts' : List (List Message))
-      → StepsOn d u gots puts answer v gots' puts' → StepsOn others (as_one u) gots puts answer (as_one v) gots' puts'
-  StepsOn-whole u gots puts answer v gots' puts' s = record {
+  EndedOnly-whole : (u : U) (answer : Step) (v : U) (waiting : ℕ) → EndedOnly d u answer v waiting → EndedOnly others (as_one u) answer (as_one v) waiting
+  EndedOnly-whole u Moved v waiting e = tt
+  EndedOnly-whole u Waits v waiting e = tt
+  EndedOnly-whole u (Ended how) v waiting e = (done v ∙ e.0, fin v ∙ e.1, rests v e.2, λ goes_on. e.3 (λ is. goes_on (done u ∙ is)))
+
+  StepsOn-whole : (u : U) (gots puts : List (List Message)) (answer : Step) (v : U) (gots' puts' : List (List Message)) (waiting : ℕ)
+      → StepsOn d u gots puts answer v gots' puts' waiting → StepsOn others (as_one u) gots puts answer (as_one v) gots' puts' waiting
+  StepsOn-whole u gots puts answer v gots' puts' waiting s = record {
     moves = s.moves;
     before_last = as_one s.before_last;
     gots_before = s.gots_before;
@@ -43,18 +49,20 @@ module _ {U V : Type 0} (d : Doing U) (others : Doing V) (as_one : U → V) (act
     moved = Moves-whole s.moves u gots puts s.before_last s.gots_before s.puts_before s.moved;
     last_answer = s.last_answer;
     last = One-whole s.before_last s.gots_before s.puts_before s.last_answer v gots' puts' s.last;
+    ended = EndedOnly-whole s.before_last s.last_answer v waiting s.ended;
     answers = s.answers;
   }
 
   -- told of what equals them
-  pub StepsOn-others : {u : U} {gots puts : List (List Message)} {answer : Step} {v : U} {gots' puts' : List (List Message)}
-      {before : V} {says : Step} {after : V} {got put : List (List Message)}
-      → before ≡ as_one u → says ≡ answer → after ≡ as_one v → got ≡ gots' → put ≡ puts'
-      → StepsOn d u gots puts answer v gots' puts' → StepsOn others before gots puts says after got put
-  StepsOn-others {u} {gots} {puts} {answer} {v} {gots'} {puts'} {before} {says} {after} {got} {put} unit tells then takes gives s =
-      subst (λ x. StepsOn others x gots puts says after got put) (sym unit)
-      (subst (λ x. StepsOn others (as_one u) gots puts x after got put) (sym tells)
-      (subst (λ x. StepsOn others (as_one u) gots puts answer x got put) (sym then)
-      (subst (λ x. StepsOn others (as_one u) gots puts answer (as_one v) x put) (sym takes)
-      (subst (λ x. StepsOn others (as_one u) gots puts answer (as_one v) gots' x) (sym gives)
-      (StepsOn-whole u gots puts answer v gots' puts' s)))))
+  pub StepsOn-others : {u : U} {gots puts : List (List Message)} {answer : Step} {v : U} {gots' puts' : List (List Message)} {waiting : ℕ}
+      {before : V} {says : Step} {after : V} {got put : List (List Message)} {left : ℕ}
+      → before ≡ as_one u → says ≡ answer → after ≡ as_one v → got ≡ gots' → put ≡ puts' → left ≡ waiting
+      → StepsOn d u gots puts answer v gots' puts' waiting → StepsOn others before gots puts says after got put left
+  StepsOn-others {u} {gots} {puts} {answer} {v} {gots'} {puts'} {waiting} {before} {says} {after} {got} {put} {left} unit tells then takes gives leaves s =
+      subst (λ x. StepsOn others x gots puts says after got put left) (sym unit)
+      (subst (λ x. StepsOn others (as_one u) gots puts x after got put left) (sym tells)
+      (subst (λ x. StepsOn others (as_one u) gots puts answer x got put left) (sym then)
+      (subst (λ x. StepsOn others (as_one u) gots puts answer (as_one v) x put left) (sym takes)
+      (subst (λ x. StepsOn others (as_one u) gots puts answer (as_one v) gots' x left) (sym gives)
+      (subst (λ x. StepsOn others (as_one u) gots puts answer (as_one v) gots' puts' x) (sym leaves)
+      (StepsOn-whole u gots puts answer v gots' puts' waiting s))))))

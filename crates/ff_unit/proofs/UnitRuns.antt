@@ -1,12 +1,11 @@
 -- Runs of any unit go on with its acts.
-use Rattle.std.specs.Prelude.{◌≡◌, ℕ, zero, suc, Bool, true, false, List, [], ◌∷◌, Option, None, Some}
+use Rattle.std.specs.Prelude.{◌≡◌, ℕ, zero, suc, Bool, List, [], ◌∷◌, Option, None, Some}
 use Rattle.std.proofs.Common.{refl, ◌∙◌, ap, sym, subst}
 use Rattle.ff_rec.specs.Lines.{Rec}
 use Rattle.ff_node.specs.Runs.{Message, Act, Took, Gave, Refused, Idle, Told, Handed, Leads, took, gave}
-use Rattle.ff_port.specs.declared.answers.End.{End}
 use Rattle.ff_port.specs.declared.answers.Step.{Step}
 use Rattle.ff_port.specs.declared.answers.Step.TheVariants.{Moved, Waits, Ended}
-use Rattle.ff_unit.specs.Units.{Doing, IsUnit, Ran, RanFrom, One, Moves, StepsOn, Answers, HandsReject, EndsAs, taken_by, told_by, idle_answer, answer_behind}
+use Rattle.ff_unit.specs.Units.{Doing, IsUnit, Ran, RanFrom, One, Moves, StepsOn, Answers, HandsReject, EndedOnly, EndsAs, taken_by, told_by, answer_behind}
 
 module _ {U : Type 0} (d : Doing U) (laws : IsUnit d) where
   -- one act more
@@ -93,19 +92,11 @@ module _ {U : Type 0} (d : Doing U) (laws : IsUnit d) where
   told-moves (suc n) u gots puts v gots' puts' m =
       told-one m.0 m.1 m.2 Moved v gots' puts' m.4 ∙ told-moves n u gots puts m.0 m.1 m.2 m.3
 
-  -- an act tells an end only where the unit has ended so
-  EndsAs-idle : (v : U) (done : Bool) (fin : Option End) → d.done v ≡ done → d.fin v ≡ fin → EndsAs d (idle_answer done fin) v
-  EndsAs-idle v true (Some fin) done_is fin_is = (done_is, fin_is)
-  EndsAs-idle v true None done_is fin_is = tt
-  EndsAs-idle v false fin done_is fin_is = tt
-
-  EndsAs-act : (act : Act) (v : U) (answer : Step) → Answers d v act answer → EndsAs d answer v
-  EndsAs-act (Took k m) v answer a = subst (λ x. EndsAs d x v) (sym a) tt
-  EndsAs-act (Gave k m) v answer a = subst (λ x. EndsAs d x v) (sym a) tt
-  EndsAs-act Refused v answer a = subst (λ x. EndsAs d x v) (sym a) tt
-  EndsAs-act Idle v answer a = subst (λ x. EndsAs d x v) (sym a) (EndsAs-idle v (d.done v) (d.fin v) refl refl)
-  EndsAs-act Told v answer a = absurd a
-  EndsAs-act (Handed x) v answer a = absurd a
+  -- an end alone tells what it tells
+  EndsAs-only : (u : U) (answer : Step) (v : U) (waiting : ℕ) → EndedOnly d u answer v waiting → EndsAs d answer v
+  EndsAs-only u Moved v waiting e = tt
+  EndsAs-only u Waits v waiting e = tt
+  EndsAs-only u (Ended fin) v waiting e = (e.0, e.1, e.2)
 
   EndsAs-behind : (n : ℕ) (answer : Step) (v : U) → EndsAs d answer v → EndsAs d (answer_behind n answer) v
   EndsAs-behind zero answer v e = e
@@ -118,9 +109,9 @@ module _ {U : Type 0} (d : Doing U) (laws : IsUnit d) where
   answer_behind-moved zero = refl
   answer_behind-moved (suc n) = refl
 
-  pub StepsOn-moves : (n : ℕ) (u : U) (gots puts : List (List Message)) (v : U) (gots' puts' : List (List Message))
-      → Moves d (suc n) u gots puts v gots' puts' → StepsOn d u gots puts Moved v gots' puts'
-  StepsOn-moves n u gots puts v gots' puts' m = record {
+  pub StepsOn-moves : (n : ℕ) (u : U) (gots puts : List (List Message)) (v : U) (gots' puts' : List (List Message)) (waiting : ℕ)
+      → Moves d (suc n) u gots puts v gots' puts' → StepsOn d u gots puts Moved v gots' puts' waiting
+  StepsOn-moves n u gots puts v gots' puts' waiting m = record {
     moves = n;
     before_last = m.0;
     gots_before = m.1;
@@ -128,11 +119,12 @@ module _ {U : Type 0} (d : Doing U) (laws : IsUnit d) where
     moved = m.3;
     last_answer = Moved;
     last = m.4;
+    ended = tt;
     answers = sym (answer_behind-moved n);
   }
 
   -- moves and one step more
-  module _ (u : U) (gots puts : List (List Message)) (answer : Step) (v : U) (gots' puts' : List (List Message)) (s : StepsOn d u gots puts answer v gots' puts') where
+  module _ (u : U) (gots puts : List (List Message)) (answer : Step) (v : U) (gots' puts' : List (List Message)) (waiting : ℕ) (s : StepsOn d u gots puts answer v gots' puts' waiting) where
     pub Ran-on : Ran d u gots puts → Ran d v gots' puts'
     Ran-on ran =
         Ran-one s.before_last s.gots_before s.puts_before s.last_answer v gots' puts' s.last
@@ -155,4 +147,4 @@ module _ {U : Type 0} (d : Doing U) (laws : IsUnit d) where
 
     pub EndsAs-on : EndsAs d answer v
     EndsAs-on =
-        subst (λ x. EndsAs d x v) (sym s.answers) (EndsAs-behind s.moves s.last_answer v (EndsAs-act s.last.act v s.last_answer s.last.answers))
+        subst (λ x. EndsAs d x v) (sym s.answers) (EndsAs-behind s.moves s.last_answer v (EndsAs-only s.before_last s.last_answer v waiting s.ended))

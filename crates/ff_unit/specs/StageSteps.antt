@@ -1,4 +1,4 @@
--- How a unit steps that runs a node between its in and its out: a stage, and what puts more behind the sends of each record.
+-- How a unit steps that runs a node between its in and its out: a stage, and what puts a Mark behind the sends of each record.
 use Rattle.std.specs.Prelude.{◌≡◌, ◌⊎◌, Bool, true, if◌then◌else◌, List, [], ◌∷◌, ◌++◌, Option, None, Some, IsSome}
 use Rattle.ff_rec.specs.Lines.{Rec}
 use Rattle.ff_rec.specs.Streams.{IsOpenMsg, carried}

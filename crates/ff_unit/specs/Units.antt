@@ -94,11 +94,11 @@ EndedOnly d u Waits v waiting = Unit {0}
 EndedOnly d u (Ended fin) v waiting =
     (d.done v ≡ true) × (d.fin v ≡ Some fin) × d.Rests v × ((d.done u ≡ true → ⊥) → waiting ≡ 0)
 
--- a unit has ended as the answer tells, where it tells an end
+-- a unit has ended as the answer tells, with nothing held, where it tells an end
 abbrev pub EndsAs : {U : Type 0} → Doing U → Step → U → Type 0
 EndsAs d Moved v = Unit {0}
 EndsAs d Waits v = Unit {0}
-EndsAs d (Ended fin) v = (d.done v ≡ true) × (d.fin v ≡ Some fin)
+EndsAs d (Ended fin) v = (d.done v ≡ true) × (d.fin v ≡ Some fin) × d.Rests v
 
 -- so many steps in a row, of which each moved
 abbrev pub Moves : {U : Type 0} → Doing U → ℕ → U → List (List Message) → List (List Message) → U → List (List Message) → List (List Message) → Type 0
@@ -113,8 +113,8 @@ answer_behind (suc n) Moved = Moved
 answer_behind (suc n) Waits = Moved
 answer_behind (suc n) (Ended fin) = Ended fin
 
--- a unit steps on: while it moves, and then once more
-pub record StepsOn {U : Type 0} (d : Doing U) (u : U) (gots puts : List (List Message)) (answer : Step) (v : U) (gots' puts' : List (List Message)) : Type 0 where
+-- a unit steps on: while it moves, and then once more; `waiting` is how many messages wait then to be handed over
+pub record StepsOn {U : Type 0} (d : Doing U) (u : U) (gots puts : List (List Message)) (answer : Step) (v : U) (gots' puts' : List (List Message)) (waiting : ℕ) : Type 0 where
   pub moves : ℕ
   pub before_last : U
   pub gots_before : List (List Message)
@@ -122,6 +122,7 @@ pub record StepsOn {U : Type 0} (d : Doing U) (u : U) (gots puts : List (List Me
   pub moved : Moves d moves u gots puts before_last gots_before puts_before
   pub last_answer : Step
   pub last : One d before_last gots_before puts_before last_answer v gots' puts'
+  pub ended : EndedOnly d before_last last_answer v waiting
   pub answers : answer ≡ answer_behind moves last_answer
 
 -- a unit that has ended does nothing more

@@ -57,6 +57,7 @@ impl Unit for Deal {
 
     ghost does = { deal_does };
 
+    #[inline(always)]
     fn step_once<P: Ports<Record>>(&mut self, ports: &mut P) -> Step {
         match take_out(&mut self.free) {
             Some(r) => self.put_free(r, ports),

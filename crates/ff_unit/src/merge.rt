@@ -75,6 +75,7 @@ impl Unit for Merge {
 
     ghost does = { merge_does };
 
+    #[inline(always)]
     fn step_once<P: Ports<Record>>(&mut self, ports: &mut P) -> Step {
         match take_out(&mut self.held) {
             None => self.go_on(ports),

@@ -8,6 +8,7 @@ use ff_port::Ports;
 use ff_rec::{Msg, Record};
 
 /// Takes from the first in that gives something, of those that still give, from in `next` on round to the one before it.
+#[inline(always)]
 pub fn take_any<P: Ports<Record>>(
     live: &Flags,
     next: usize,
@@ -34,6 +35,7 @@ pub fn take_any<P: Ports<Record>>(
 }
 
 // Looks only at ins from `low` on and below `high`.
+#[inline(always)]
 fn take_between<P: Ports<Record>>(
     live: &Flags,
     low: usize,

@@ -12,18 +12,18 @@ pub trait Threaded: Unit {
     fn step_many<P: Ports<Record>>(&mut self, ports: &mut P) -> Step
         requires { Ran Self.does self.old (P.gots ports.old) (P.puts ports.old) }
         ensures steps { StepsOn Self.does self.old (P.gots ports.old) (P.puts ports.old)
-            result self.new (P.gots ports.new) (P.puts ports.new) }
+            result self.new (P.gots ports.new) (P.puts ports.new) (P.waiting ports.new) }
         ensures waits { WaitsOnly Self.does self.old result
             (known (P.knowns ports.old) (P.rooms ports.old) (P.waiting ports.old))
             (known (P.knowns ports.new) (P.rooms ports.new) (P.waiting ports.new)) }
         ensures link { P.link ports.new ≡ P.link ports.old };
 
-    /// Steps on while it moves, many times at most. Where it moved and waits then, the answer is that it moved.
+    /// Steps on while it moves, up to a number of steps that no clause tells. Where it moved and waits then, the answer is that it moved.
     #[inline(always)]
     final fn advance<P: Ports<Record>>(&mut self, ports: &mut P) -> Step
         requires { Ran Self.does self.old (P.gots ports.old) (P.puts ports.old) }
         ensures steps { StepsOn Self.does self.old (P.gots ports.old) (P.puts ports.old)
-            result self.new (P.gots ports.new) (P.puts ports.new) }
+            result self.new (P.gots ports.new) (P.puts ports.new) (P.waiting ports.new) }
         ensures ran { Ran Self.does self.new (P.gots ports.new) (P.puts ports.new) }
         ensures start { Self.does.opening self.new ≡ Self.does.opening self.old }
         ensures taken { Self.does.taken self.new ≡ Self.does.taken self.old }

@@ -90,7 +90,7 @@ pub trait Unit: Drop {
     final fn step_on<P: Ports<Record>>(&mut self, ports: &mut P) -> Step
         requires { Ran does self.old (P.gots ports.old) (P.puts ports.old) }
         ensures steps { StepsOn does self.old (P.gots ports.old) (P.puts ports.old)
-            result self.new (P.gots ports.new) (P.puts ports.new) }
+            result self.new (P.gots ports.new) (P.puts ports.new) (P.waiting ports.new) }
         ensures waits { WaitsOnly does self.old result
             (known (P.knowns ports.old) (P.rooms ports.old) (P.waiting ports.old))
             (known (P.knowns ports.new) (P.rooms ports.new) (P.waiting ports.new)) }

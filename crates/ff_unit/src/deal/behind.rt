@@ -93,6 +93,7 @@ impl Behind {
     }
 
     /// The first message, which is taken out.
+    #[inline(always)]
     pub fn take(&mut self) -> Option<Pair>
         ensures { TakesPair self.old result self.new }
     {

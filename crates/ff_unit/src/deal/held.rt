@@ -103,6 +103,7 @@ impl Held {
     }
 
     /// Puts the first message, if one is held.
+    #[inline(always)]
     pub fn put_first<P: Ports<Record>>(&mut self, ports: &mut P) -> HeldPut
         requires { AreOpenOuts (P.puts ports.old) self.old }
         ensures puts { PutsHeld self.old (P.puts ports.old) (P.rooms ports.old) result
@@ -126,6 +127,7 @@ impl Held {
 }
 
 // The first message that is held, which is taken out.
+#[inline(always)]
 fn take_first(first: &mut Option<Pair>, behind: &mut Behind) -> Option<Pair>
     ensures first { first.new ≡ None }
     ensures taken { TakesPair (option_to_list first.old ++ behind.old) result behind.new }

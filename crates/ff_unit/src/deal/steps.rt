@@ -11,6 +11,7 @@ use ff_rec::{Msg, Record};
 
 impl Deal {
     /// A step while nothing is held.
+    #[inline(always)]
     pub(super) fn go_on<P: Ports<Record>>(&mut self, ports: &mut P) -> Step
         requires free { self.old.free ≡ None }
         requires held { self.old.held ≡ [] }
@@ -38,6 +39,7 @@ impl Deal {
     }
 
     // Takes from the in.
+    #[inline(always)]
     fn take_one<P: Ports<Record>>(&mut self, ports: &mut P) -> Step
         requires free { self.old.free ≡ None }
         requires held { self.old.held ≡ [] }

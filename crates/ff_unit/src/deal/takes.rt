@@ -15,6 +15,7 @@ use ff_rec::{Msg, Record};
 
 impl Deal {
     /// Takes a message, while nothing is held.
+    #[inline(always)]
     pub(super) fn receive(&mut self, m: Msg<Record>)
         requires held { self.old.held ≡ [] }
         requires turn { self.old.turn < self.old.places }
@@ -30,6 +31,7 @@ impl Deal {
     }
 
     // For want of memory records are dropped.
+    #[inline(always)]
     fn deal(&mut self, r: Record)
         requires held { self.old.held ≡ [] }
         requires turn { self.old.turn < self.old.places }
@@ -42,6 +44,7 @@ impl Deal {
     }
 
     // The record goes to its place, or waits for one with room.
+    #[inline(always)]
     fn deal_one(&mut self, r: Record)
         requires held { self.old.held ≡ [] }
         requires turn { self.old.turn < self.old.places }

@@ -12,6 +12,7 @@ use ff_rec::{Msg, Record};
 
 impl Merge {
     /// A step while nothing is held.
+    #[inline(always)]
     pub(super) fn go_on<P: Ports<Record>>(&mut self, ports: &mut P) -> Step
         requires held { self.old.held ≡ [] }
         requires ins { length (P.gots ports.old) ≡ length self.old.live }
@@ -35,6 +36,7 @@ impl Merge {
     }
 
     // Takes from the first in that has something.
+    #[inline(always)]
     fn take_one<P: Ports<Record>>(&mut self, ports: &mut P) -> Step
         requires held { self.old.held ≡ [] }
         requires live { any_live self.old.live ≡ true }
@@ -58,6 +60,7 @@ impl Merge {
     }
 
     // A message comes at in `k`.
+    #[inline(always)]
     fn receive(&mut self, k: usize, m: Msg<Record>)
         requires held { self.old.held ≡ [] }
         requires live { IsLive self.old.live k }

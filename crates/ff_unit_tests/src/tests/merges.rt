@@ -2,9 +2,9 @@
 ghost use Rattle.std.specs.Prelude.{◌≤◌, length};
 
 use super::{ORDERS, run};
-use ff_port::End;
-use ff_test_ports::{ports_of, scripts_at};
-use ff_unit::Merge;
+use ff_port::{End, Step};
+use ff_test_ports::{Fickle, ports_of, scripts_at};
+use ff_unit::{Merge, Unit};
 use std::alloc::Global;
 use std::process::Abort;
 use std::test::Fail;
@@ -171,6 +171,40 @@ fn one_in_and_sixty_four(rt: HostRuntime) -> Result<(), Fail> {
     for seed in 1..=ORDERS {
         merges_one(&rt, rt.alloc(), seed)?;
         merges_sixty_four(&rt, rt.alloc(), seed)?;
+    }
+    Ok(())
+}
+
+// What a merge of one in answers to many steps at once and puts by them, where its ports give all that they have.
+fn merged_at_once(alloc: Global, script: &str) -> Result<(Step, String), Fail> {
+    let mut ports = ports_of(alloc, &[script], 1, 1)?.into_inner();
+    let mut merge = Merge::new(1);
+    let answer = merge.step_on(&mut ports);
+    Ok((answer, scripts_at(alloc, Fickle::new(ports, 1))?))
+}
+
+fn answers_at_once(
+    rt: &impl Abort,
+    alloc: Global,
+    script: &str,
+    answer: Step,
+    out: &str,
+) -> Result<(), Fail> {
+    let got = merged_at_once(alloc, script)?;
+    assert_eq!(rt; (got.0, got.1.as_str()), (answer, out), "{script}");
+    Ok(())
+}
+
+// It steps on while it moves. Where it moved and waits then, it has moved.
+#[test]
+fn many_steps_at_once(rt: HostRuntime) -> Result<(), Fail> {
+    for (script, answer, out) in [
+        ("", Step::Waits, " "),
+        ("ab", Step::Moved, "ab "),
+        ("ab.", Step::Ended(End::Eos), "ab. "),
+        ("ab!", Step::Ended(End::Abort), "ab! "),
+    ] {
+        answers_at_once(&rt, rt.alloc(), script, answer, out)?;
     }
     Ok(())
 }

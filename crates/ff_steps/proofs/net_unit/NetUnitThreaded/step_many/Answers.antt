@@ -62,31 +62,31 @@ returns-clause-steps g c =
     let b = g.N.Node.does in
     elim c.match-self.branch [
       | in-Stage w ↦
-          StepsOn-others (stage_does (comb_node b)) (net_does b) AsStage (λ x act y step. (y, refl, step)) (λ x. refl) (λ x. refl)
+          StepsOn-others (stage_does (comb_node b)) (net_does b) AsStage (λ x act y step. (y, refl, step)) (λ x. refl) (λ x. refl) (λ x r. r)
           (sym c.self.view_is ∙ ap state_of w.in-Stage.is) w.result-is (ap (λ i. state_of i.part) w.self-inside-is)
-          (ap g.P.Ports.gots w.ports-is) (ap g.P.Ports.puts w.ports-is) w.step_on.ensures.steps
+          (ap g.P.Ports.gots w.ports-is) (ap g.P.Ports.puts w.ports-is) (ap g.P.Ports.waiting w.ports-is) w.step_on.ensures.steps
       | in-Deal w ↦
-          StepsOn-others deal_does (net_does b) AsDeal (λ x act y step. (y, refl, step)) (λ x. refl) (λ x. refl)
+          StepsOn-others deal_does (net_does b) AsDeal (λ x act y step. (y, refl, step)) (λ x. refl) (λ x. refl) (λ x r. r)
           (sym c.self.view_is ∙ ap state_of w.in-Deal.is) w.result-is (ap (λ i. state_of i.part) w.self-inside-is)
-          (ap g.P.Ports.gots w.ports-is) (ap g.P.Ports.puts w.ports-is) w.step_on-in-Deal.ensures.steps
+          (ap g.P.Ports.gots w.ports-is) (ap g.P.Ports.puts w.ports-is) (ap g.P.Ports.waiting w.ports-is) w.step_on-in-Deal.ensures.steps
       | in-ODeal w ↦
-          StepsOn-others deal_does (net_does b) AsDeal (λ x act y step. (y, refl, step)) (λ x. refl) (λ x. refl)
+          StepsOn-others deal_does (net_does b) AsDeal (λ x act y step. (y, refl, step)) (λ x. refl) (λ x. refl) (λ x r. r)
           (sym c.self.view_is ∙ ap state_of w.in-ODeal.is) w.result-is (ap (λ i. state_of i.part) w.self-inside-is)
-          (ap g.P.Ports.gots w.ports-is) (ap g.P.Ports.puts w.ports-is) w.step_on-in-ODeal.ensures.steps
+          (ap g.P.Ports.gots w.ports-is) (ap g.P.Ports.puts w.ports-is) (ap g.P.Ports.waiting w.ports-is) w.step_on-in-ODeal.ensures.steps
       | in-Merge w ↦
-          StepsOn-others merge_does (net_does b) AsMerge (λ x act y step. (y, refl, step)) (λ x. refl) (λ x. refl)
+          StepsOn-others merge_does (net_does b) AsMerge (λ x act y step. (y, refl, step)) (λ x. refl) (λ x. refl) (λ x r. r)
           (sym c.self.view_is ∙ ap state_of w.in-Merge.is) w.result-is (ap (λ i. state_of i.part) w.self-inside-is)
-          (ap g.P.Ports.gots w.ports-is) (ap g.P.Ports.puts w.ports-is) w.step_on-in-Merge.ensures.steps
+          (ap g.P.Ports.gots w.ports-is) (ap g.P.Ports.puts w.ports-is) (ap g.P.Ports.waiting w.ports-is) w.step_on-in-Merge.ensures.steps
       | in-OMerge w ↦
-          StepsOn-others omerge_does (net_does b) AsOMerge (λ x act y step. (y, refl, step)) (λ x. refl) (λ x. refl)
+          StepsOn-others omerge_does (net_does b) AsOMerge (λ x act y step. (y, refl, step)) (λ x. refl) (λ x. refl) (λ x r. r)
           (sym c.self.view_is ∙ ap state_of w.in-OMerge.is) w.result-is (ap (λ i. state_of i.part) w.self-inside-is)
-          (ap g.P.Ports.gots w.ports-is) (ap g.P.Ports.puts w.ports-is) w.step_on-in-OMerge.ensures.steps
+          (ap g.P.Ports.gots w.ports-is) (ap g.P.Ports.puts w.ports-is) (ap g.P.Ports.waiting w.ports-is) w.step_on-in-OMerge.ensures.steps
       | in-Master w ↦
-          StepsOn-others wrap_does (net_does b) AsMaster (λ x act y step. (y, refl, step)) (λ x. refl) (λ x. refl)
+          StepsOn-others wrap_does (net_does b) AsMaster (λ x act y step. (y, refl, step)) (λ x. refl) (λ x. refl) (λ x r. r)
           (sym c.self.view_is ∙ ap state_of w.in-Master.is) w.result-is (ap (λ i. state_of i.part) w.self-inside-is)
-          (ap g.P.Ports.gots w.ports-is) (ap g.P.Ports.puts w.ports-is) w.step_on-in-Master.ensures.steps
+          (ap g.P.Ports.gots w.ports-is) (ap g.P.Ports.puts w.ports-is) (ap g.P.Ports.waiting w.ports-is) w.step_on-in-Master.ensures.steps
       | in-Worker w ↦
-          StepsOn-others (worker_does (comb_node b)) (net_does b) AsWorker (λ x act y step. (y, refl, step)) (λ x. refl) (λ x. refl)
+          StepsOn-others (worker_does (comb_node b)) (net_does b) AsWorker (λ x act y step. (y, refl, step)) (λ x. refl) (λ x. refl) (λ x r. r)
           (sym c.self.view_is ∙ ap state_of w.in-Worker.is) w.result-is (ap (λ i. state_of i.part) w.self-inside-is)
-          (ap g.P.Ports.gots w.ports-is) (ap g.P.Ports.puts w.ports-is) w.step_on-in-Worker.ensures.steps
+          (ap g.P.Ports.gots w.ports-is) (ap g.P.Ports.puts w.ports-is) (ap g.P.Ports.waiting w.ports-is) w.step_on-in-Worker.ensures.steps
     ]

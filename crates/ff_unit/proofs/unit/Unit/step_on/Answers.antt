@@ -11,5 +11,6 @@ returns-clause-steps g c =
     let after = c.loop-k.ports in
     let all : c.loop-k.k ≡ 1024 = omega arith in
     StepsOn-moves d g.met.Self.Unit.sound 1023 c.args.self.now (g.P.Ports.gots before) (g.P.Ports.puts before) c.loop-k.self (g.P.Ports.gots after) (g.P.Ports.puts after)
+    (g.P.Ports.waiting after)
     (subst (λ k. Moves d k c.args.self.now (g.P.Ports.gots before) (g.P.Ports.puts before) c.loop-k.self (g.P.Ports.gots after) (g.P.Ports.puts after))
     all c.loop-k.invariant.moved)
