@@ -7,7 +7,7 @@ use Rattle.ff_plan.specs.Rows.{Row}
 use Rattle.ff_plan.specs.declared.kind.Party.{Party}
 use Rattle.ff_plan.specs.declared.kind.Party.TheVariants.{Caller, Unit as OfUnit}
 use Rattle.ff_plan.specs.declared.kind.UnitKind.{UnitKind}
-use Rattle.ff_plan.specs.declared.kind.UnitKind.TheVariants.{Stage, Master, Worker}
+use Rattle.ff_plan.specs.declared.kind.UnitKind.TheVariants.{Stage, DealRr, DealBy, ODealRr, Master, Worker}
 use Rattle.ff_plan.specs.declared.layout.Edge.{Edge}
 use Rattle.ff_ring.specs.Ends.{got_of, put_of, room_of, is_eager, is_eager_in, read_ring, written_ring, IsMade}
 use Rattle.ff_ring.specs.Names.{RingName}
@@ -36,7 +36,7 @@ abbrev pub is_prompt : Delivery → Bool
 is_prompt Prompt = true
 is_prompt Gathered = false
 
--- whether a unit does so: the workers of a wrap wait for their master; all other units hand over what waits before they pause
+-- whether a unit does so: the workers of a wrap wait for their master; all other units hand over what waits once they run dry, deals in turn and by key behind some naps
 abbrev pub hurries : Delivery → UnitKind → Bool
 hurries delivery Stage = is_prompt delivery
 hurries delivery Master = true
@@ -47,7 +47,7 @@ row_hurries delivery None = true
 row_hurries delivery (Some row) = hurries delivery row.kind
 
 -- whether the writer of an edge does so; the caller doesn't, who hands over what waits where a read gave less than it might, and before
--- each pause
+-- it parks
 abbrev pub writer_hurries : Delivery → List Row → Party → Bool
 writer_hurries delivery rows Caller = false
 writer_hurries delivery rows (OfUnit number) = row_hurries delivery (slice_get rows number)
@@ -103,3 +103,10 @@ abbrev pub spins_for : UnitKind → Spins
 spins_for Master = Many
 spins_for Worker = Many
 spins_for _ = Few
+
+-- whether it naps before it hands over what it has gathered: a deal that hands it over at once wakes several readers for little each
+abbrev pub naps_for : UnitKind → Bool
+naps_for DealRr = true
+naps_for (DealBy f) = true
+naps_for ODealRr = true
+naps_for _ = false

@@ -51,8 +51,8 @@ pub(crate) fn make_rings(
     Ok(Board { ins, outs })
 }
 
-// Whether the writer of an edge hands over as soon as its reader has taken all else, and not only full bundles and what waits
-// before a pause. A stage does where that is asked for, and the master of a wrap does, whose workers wait for their next
+// Whether the writer of an edge hands over as soon as its reader has taken all else, and not only full bundles, and what waits
+// once it runs dry or has napped. A stage does where that is asked for, and the master of a wrap does, whose workers wait for their next
 // task. The others are at their next message or at their pause at once, and a hand-over for each message would cost them more.
 fn hurries(delivery: Delivery, writer: Party, rows: &[UnitRow]) -> bool
     ensures { result ≡ writer_hurries delivery rows.now writer }

@@ -2,7 +2,7 @@
 ghost use Rattle.std.specs.Prelude.{◌≡◌, ◌⊎◌, [], true, None, Some};
 ghost use Rattle.ff_port.specs.declared.answers.End.TheVariants.{Eos};
 ghost use Rattle.ff_ring.specs.Ends.{put_of, got_of, room_of, waiting_of, read_ring, written_ring};
-ghost use Rattle.ff_ring.specs.Pauses.{lies_next};
+ghost use Rattle.ff_ring.specs.Pauses.{hands_next};
 ghost use Rattle.ff_engine.specs.Callers.{EndsWithEos};
 
 mod feeding;
@@ -115,10 +115,10 @@ impl Caller {
         Some(m)
     }
 
-    /// Waits for the other ends. Before it lies down it hands over what waits: the units wait for that.
+    /// Waits for the other ends. Before it parks it hands over what waits: the units wait for that.
     pub(crate) fn rest<R: Wait>(&mut self, rt: &R)
         ensures same { caller_of self.new ≡ caller_of self.old }
-        ensures lies { lies_next self.old.pause ≡ true
+        ensures lies { hands_next self.old.pause ≡ true
             → (waiting_of self.new.first ≡ 0) ⊎ (room_of self.new.first ≡ 0) }
     {
         if self.pause.rest(rt) {

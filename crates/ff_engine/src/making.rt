@@ -2,7 +2,7 @@
 ghost use Rattle.std.specs.Prelude.{◌≡◌, ℕ, length, map, All, IfOk, OnOk};
 ghost use Rattle.std.specs.List.{AllZip, flat_map};
 ghost use Rattle.ff_ring.specs.Names.{RingName};
-ghost use Rattle.ff_engine.specs.Boards.{AreFresh, AreNamed, spins_for};
+ghost use Rattle.ff_engine.specs.Boards.{AreFresh, AreNamed, naps_for, spins_for};
 ghost use Rattle.ff_engine.specs.Jobs.{IsFresh, IsOpened};
 ghost use Rattle.ff_engine.specs.Lines.{HasEnds};
 ghost use Rattle.ff_engine.specs.Slots.{Holds, emptied};
@@ -47,7 +47,7 @@ pub(crate) fn make_jobs<U: Unit, R: Clone + Drop>(
             unreachable!()
         };
         let bell = Arc::try_clone(bells.unit(jobs.len()))?;
-        let pause = Pause::new(bell, spins_of(row.kind));
+        let pause = Pause::new(bell, spins_of(row.kind), naps(row.kind));
         jobs.push(make_job(alloc, unit, row, pause, rt, board)?)?;
     }
     Ok(jobs)
@@ -60,6 +60,17 @@ fn spins_of(kind: UnitKind) -> Spins
     match kind {
         UnitKind::Master | UnitKind::Worker => Spins::Many,
         _ => Spins::Few,
+    }
+}
+
+// Whether the thread of a unit naps before it hands over what it has gathered. What a deal takes at once goes to several outs, little to
+// each, and to wake each reader for that costs more than the work on it.
+fn naps(kind: UnitKind) -> bool
+    ensures { result ≡ naps_for kind }
+{
+    match kind {
+        UnitKind::DealRr | UnitKind::DealBy(_) | UnitKind::ODealRr => true,
+        _ => false,
     }
 }
 

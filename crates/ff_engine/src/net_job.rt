@@ -14,7 +14,7 @@ use ff_unit::{Threaded, Unit};
 use std::marker::Model;
 use std::sync::Wait;
 
-/// A unit with its ports, which is run step by step until it has ended. Where it finds nothing to do
+/// A unit with its ports, which steps on until it has ended. Where it finds nothing to do
 /// it tries again after a pause, which the other ends of its rings cut short.
 #[derive(Drop)]
 pub struct NetJob<U: Unit, R> {

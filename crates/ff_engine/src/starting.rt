@@ -62,7 +62,7 @@ pub(crate) fn prepare<N: Node + Send + 'static, R: Wait + Clone + Drop + Send + 
             alloc,
             first,
             last,
-            Pause::new(own, Spins::Few),
+            Pause::new(own, Spins::Few, false),
             others,
             checked.has_wrap(),
         ),

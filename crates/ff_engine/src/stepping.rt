@@ -1,6 +1,6 @@
 // How a unit is stepped in a thread of its own.
-ghost use Rattle.std.specs.Prelude.{◌≡◌, ◌↔◌, true, IsTrue, IsSome, IfSome};
-ghost use Rattle.ff_ring.specs.Pauses.{lies_next};
+ghost use Rattle.std.specs.Prelude.{◌≡◌, ◌↔◌, true, false, IsTrue, IsSome, IfSome};
+ghost use Rattle.ff_ring.specs.Pauses.{hands_next, has_napped, lies_behind, lies_down, naps_behind, naps_left_of, naps_of, napped_behind};
 ghost use Rattle.ff_unit.specs.Units.{Ran};
 
 use ff_port::{Ports, Step};
@@ -28,7 +28,7 @@ pub(crate) fn run_unit<U: Threaded, P: Ports<Record>, R: Wait>(
     for _ in rt.forever() {
         match unit.advance(ports) {
             Step::Moved => {
-                // Only the first move behind a pause has anything to reset.
+                // Only the first answer behind a pause that tells of a move has anything to reset.
                 if !moved {
                     pause.reset();
                 }
@@ -43,9 +43,9 @@ pub(crate) fn run_unit<U: Threaded, P: Ports<Record>, R: Wait>(
     }
 }
 
-// Waits for the other ends. Where the unit moved since the last time, it hands over what waits and tries again at once: a
-// reader may wait for just that, and so for its answer this unit. It also hands over where the thread lies down. The answer is
-// whether nothing is left then, which only a flush can tell.
+// Waits for the other ends. Where the unit moved since the last time, it hands over what waits and tries again at once: a reader may
+// wait for just that, and so for its answer this unit. One that naps keeps what waits, behind four naps at most. Each unit hands over
+// before its thread parks. The answer is whether nothing is left then, which only a flush can tell.
 fn wait<P: Ports<Record>, R: Wait>(
     moved: bool,
     ports: &mut P,
@@ -55,11 +55,13 @@ fn wait<P: Ports<Record>, R: Wait>(
     ensures gots { P.gots ports.new ≡ P.gots ports.old }
     ensures puts { P.puts ports.new ≡ P.puts ports.old }
     ensures link { P.link ports.new ≡ P.link ports.old }
-    ensures moved { moved ≡ true → IsSome result }
-    ensures lies { lies_next pause.old ≡ true → IsSome result }
+    ensures moved { moved ≡ true → naps_of pause.old ≡ false → IsSome result }
+    ensures lies { hands_next pause.old ≡ true → IsSome result }
+    ensures rests { moved ≡ false → (lies_down pause.new ≡ lies_behind pause.old)
+        × (naps_left_of pause.new ≡ naps_behind pause.old) × (has_napped pause.new ≡ napped_behind pause.old) }
     ensures left { IfSome result (λ all. IsTrue all ↔ (P.waiting ports.new ≡ 0)) }
 {
-    if moved || pause.rest(rt) {
+    if (moved && !pause.naps()) || pause.rest(rt) {
         return Some(ports.flush());
     }
     None

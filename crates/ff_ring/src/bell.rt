@@ -7,7 +7,7 @@ use std::time::Duration;
 // The thread works, or its bell rang since it last tried.
 const WORKS: u64 = 0;
 
-// It found nothing to do, and tries once more.
+// It found nothing to do, and tries once more, before it parks or naps.
 const TRIES: u64 = 1;
 
 // That try found nothing either, and the bell hasn't rung since before it: all that was handed over was seen.
@@ -70,6 +70,12 @@ impl Bell {
     /// The thread works again.
     pub(crate) fn works(&self) {
         self.state.store(WORKS, Ordering::SeqCst);
+    }
+
+    /// The thread naps until the bell rings or the time is over. It doesn't rest.
+    pub(crate) fn nap<R: Wait>(&self, rt: &R, time: Duration) {
+        self.parker.park_timeout(rt, time);
+        self.works();
     }
 
     /// The thread sleeps until the bell rings or the time is over. It rests meanwhile, if it tried once more.

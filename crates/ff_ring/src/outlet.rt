@@ -64,7 +64,10 @@ impl<T> Outlet<T> {
         ensures reader { self.new.reader ≡ self.old.reader }
         ensures value { IsTrue result ↔ IsDue eager self.new }
     {
-        self.is_single() || (eager && self.end.slots() == self.end.capacity())
+        if !eager {
+            return self.is_single();
+        }
+        self.is_single() || self.end.slots() == self.end.capacity()
     }
 
     /// Whether the ring has one slot.

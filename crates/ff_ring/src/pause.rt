@@ -7,6 +7,12 @@ use std::hint;
 use std::sync::{Arc, Wait};
 use std::time::Duration;
 
+// How long it naps, in microseconds: some ten times as long as a sleep and a wake take.
+const NAP: u64 = 200;
+
+// How often it naps before it hands over what it has gathered.
+const MOST_NAPS: u32 = 4;
+
 // How long a thread is parked at first, in milliseconds, and at most. Bells wake it; the time is a safety net.
 const FIRST_PARK: u64 = 2;
 
@@ -19,7 +25,8 @@ const LONGEST_DOZE: u64 = 2000;
 
 /// The pauses of a thread between its tries, while it finds nothing to do: 1, 2, 4, .. spins, which cost no more
 /// than a message's way, and then parks of 2, 4, .. 50 milliseconds, which the other ends of its rings cut short. Before
-/// each park it lies down and tries once more, so that no bell is missed. It never yields its time slice, since a busy
+/// each park it lies down and tries once more, so that no bell is missed. One that naps sleeps for a moment in the place of a park,
+/// a few times between two handings over, and keeps meanwhile what it has gathered. It never yields its time slice, since a busy
 /// machine gives the whole slice away.
 #[derive(Drop)]
 pub struct Pause {
@@ -29,6 +36,11 @@ pub struct Pause {
     spins: u32,
     // Whether it lay down since something was done and since it last slept.
     lies: bool,
+    // Whether it naps, how often it still may before it hands over (not at all once it has, until something is done), and whether
+    // it has since something was done.
+    naps: bool,
+    naps_left: u32,
+    napped: bool,
     // How long the next park may last, in milliseconds.
     millis: u64,
     // How long the next doze may last, in microseconds.
@@ -40,28 +52,43 @@ pub struct Pause {
 }
 
 impl Pause {
-    ghost use Rattle.std.specs.Prelude.{◌≡◌, ◌*◌, min, not, true, false, if◌then◌else◌};
+    ghost use Rattle.std.specs.Prelude.{◌≡◌, ◌*◌, ◌-◌, ◌<◌, min, not, true, false, if◌then◌else◌};
     ghost use Rattle.ff_ring.specs.SpinCounts.{most_spins};
-    ghost use Rattle.ff_ring.specs.Pauses.{IsFresh, most_of, spins_of, lies_down, millis_of, micros_of, spins_next, lies_next, sleeps_next, spins_behind, lies_behind};
+    ghost use Rattle.ff_ring.specs.Pauses.{IsFresh, most_of, spins_of, lies_down, naps_of, naps_left_of, has_napped, millis_of, micros_of};
+    ghost use Rattle.ff_ring.specs.Pauses.{spins_next, hands_next, parks_next, sleeps_next, spins_behind, lies_behind, naps_behind, napped_behind, naps_renewed};
 
     /// The pauses of the thread with this bell. The other ends of its rings are given it too.
-    pub fn new(bell: Arc<Bell, Global>, spins: Spins) -> Pause
+    pub fn new(bell: Arc<Bell, Global>, spins: Spins, naps: bool) -> Pause
         ensures fresh { IsFresh result }
         ensures most { most_of result ≡ most_spins spins }
+        ensures naps { naps_of result ≡ naps }
+        ensures left { naps_left_of result ≡ 0 }
     {
         Pause {
             bell,
             most: spins.most(),
             spins: 1,
             lies: false,
+            naps,
+            naps_left: 0,
+            napped: false,
             millis: FIRST_PARK,
             micros: FIRST_DOZE,
         }
     }
 
-    /// Something was done: the next pause is short again.
+    /// Whether it naps: where it finds nothing, what it has gathered is to be kept until `rest` answers so.
+    pub fn naps(&self) -> bool
+        ensures { result ≡ naps_of self.now }
+    {
+        self.naps
+    }
+
+    /// Something was done: the next pause is short again. One that has handed over what it had may nap again.
     pub fn reset(&mut self)
         ensures fresh { IsFresh self.new }
+        ensures naps { naps_of self.new ≡ naps_of self.old }
+        ensures left { naps_left_of self.new ≡ naps_renewed self.old }
         ensures most { most_of self.new ≡ most_of self.old }
     {
         if self.lies {
@@ -69,26 +96,41 @@ impl Pause {
         }
         self.spins = 1;
         self.lies = false;
+        self.napped = false;
+        if self.naps && self.naps_left == 0 {
+            self.naps_left = MOST_NAPS;
+        }
         self.millis = FIRST_PARK;
         self.micros = FIRST_DOZE;
     }
 
-    /// A pause before the next try. Where it answers so, the thread lay down: hand over what waits before that try. Others
-    /// wait for it, and the pause behind that try is a park.
+    /// A pause before the next try. Where it answers so, hand over what waits before that try: others wait for it. The thread
+    /// lay down, and the pause behind that try is a park; or it has napped for the last time. Where nothing came behind a nap, no
+    /// other follows.
     pub fn rest<R: Wait>(&mut self, rt: &R) -> bool
-        ensures answer { result ≡ lies_next self.old }
+        ensures answer { result ≡ hands_next self.old }
         ensures most { most_of self.new ≡ most_of self.old }
         ensures spins { spins_of self.new ≡ spins_behind self.old }
         ensures lies { lies_down self.new ≡ lies_behind self.old }
+        ensures naps { naps_of self.new ≡ naps_of self.old }
+        ensures left { naps_left_of self.new ≡ naps_behind self.old }
+        ensures napped { has_napped self.new ≡ napped_behind self.old }
         ensures millis { millis_of self.new
-            ≡ (if sleeps_next self.old then min 50 (2 * millis_of self.old) else millis_of self.old) }
+            ≡ (if parks_next self.old then min 50 (2 * millis_of self.old) else millis_of self.old) }
         ensures micros { micros_of self.new ≡ micros_of self.old }
     {
         if self.spin() {
             return false;
         }
         if self.lie_down() {
-            return true;
+            if self.napped {
+                self.naps_left = 0;
+            }
+            return self.naps_left == 0;
+        }
+        if self.naps_left > 0 {
+            self.nap(rt);
+            return self.naps_left == 0;
         }
         self.park(rt);
         false
@@ -102,6 +144,9 @@ impl Pause {
         ensures millis { millis_of self.new ≡ millis_of self.old }
         ensures micros { micros_of self.new
             ≡ (if sleeps_next self.old then min 2000 (2 * micros_of self.old) else micros_of self.old) }
+        ensures naps { naps_of self.new ≡ naps_of self.old }
+        ensures left { naps_left_of self.new ≡ naps_left_of self.old }
+        ensures napped { has_napped self.new ≡ has_napped self.old }
     {
         if self.spin() || self.lie_down() {
             return;
@@ -117,6 +162,9 @@ impl Pause {
         ensures lies { lies_down self.new ≡ lies_down self.old }
         ensures millis { millis_of self.new ≡ millis_of self.old }
         ensures micros { micros_of self.new ≡ micros_of self.old }
+        ensures naps { naps_of self.new ≡ naps_of self.old }
+        ensures left { naps_left_of self.new ≡ naps_left_of self.old }
+        ensures napped { has_napped self.new ≡ has_napped self.old }
     {
         if self.spins > self.most {
             return false;
@@ -136,6 +184,9 @@ impl Pause {
         ensures lies { lies_down self.new ≡ true }
         ensures millis { millis_of self.new ≡ millis_of self.old }
         ensures micros { micros_of self.new ≡ micros_of self.old }
+        ensures naps { naps_of self.new ≡ naps_of self.old }
+        ensures left { naps_left_of self.new ≡ naps_left_of self.old }
+        ensures napped { has_napped self.new ≡ has_napped self.old }
     {
         if self.lies {
             return false;
@@ -152,10 +203,31 @@ impl Pause {
         ensures lies { lies_down self.new ≡ false }
         ensures millis { millis_of self.new ≡ min 50 (2 * millis_of self.old) }
         ensures micros { micros_of self.new ≡ micros_of self.old }
+        ensures naps { naps_of self.new ≡ naps_of self.old }
+        ensures left { naps_left_of self.new ≡ naps_left_of self.old }
+        ensures napped { has_napped self.new ≡ has_napped self.old }
     {
         self.bell.sleep(rt, Duration::from_millis(self.millis));
         self.lies = false;
         self.millis = (2 * self.millis).min(LONGEST_PARK);
+    }
+
+    // Sleeps for a moment, which a bell cuts short. It doesn't rest meanwhile: it may have something to hand over.
+    fn nap<R: Wait>(&mut self, rt: &R)
+        requires { 0 < naps_left_of self.old }
+        ensures most { most_of self.new ≡ most_of self.old }
+        ensures spins { spins_of self.new ≡ spins_of self.old }
+        ensures lies { lies_down self.new ≡ false }
+        ensures naps { naps_of self.new ≡ naps_of self.old }
+        ensures left { naps_left_of self.new ≡ naps_left_of self.old - 1 }
+        ensures napped { has_napped self.new ≡ true }
+        ensures millis { millis_of self.new ≡ millis_of self.old }
+        ensures micros { micros_of self.new ≡ micros_of self.old }
+    {
+        self.bell.nap(rt, Duration::from_micros(NAP));
+        self.lies = false;
+        self.naps_left -= 1;
+        self.napped = true;
     }
 
     // Parks as where no bell need ring.
@@ -165,6 +237,9 @@ impl Pause {
         ensures lies { lies_down self.new ≡ false }
         ensures millis { millis_of self.new ≡ millis_of self.old }
         ensures micros { micros_of self.new ≡ min 2000 (2 * micros_of self.old) }
+        ensures naps { naps_of self.new ≡ naps_of self.old }
+        ensures left { naps_left_of self.new ≡ naps_left_of self.old }
+        ensures napped { has_napped self.new ≡ has_napped self.old }
     {
         self.bell.sleep(rt, Duration::from_micros(self.micros));
         self.lies = false;

@@ -7,7 +7,8 @@ use crate::{Bell, Pause, RingIn, RingOut, Spins, ring, settle};
 use ff_port::{Inbox, Outbox, Put};
 use ff_rec::{Msg, NoMemory};
 use std::alloc::Global;
-use std::sync::Arc;
+use std::process::Abort;
+use std::sync::{Arc, Wait};
 use std::test::Fail;
 
 mod threads;
@@ -167,13 +168,44 @@ fn settling_tells_what_is_left(rt: HostRuntime) -> Result<(), Fail> {
     Ok(())
 }
 
+// Seven pauses with spins, and one more try. Then it naps, and where that was the last nap, is told to hand over.
+fn check_nap<R: Abort + Wait>(rt: &R, bell: &Bell, pause: &mut Pause, last: bool) {
+    for _ in 0..8 {
+        assert!(rt; !pause.rest(rt));
+    }
+    assert_eq!(rt; pause.rest(rt), last);
+    assert!(rt; !bell.notes_rest());
+}
+
+// It naps four times, where something is done behind each nap, and once else. Then it parks until something is done.
+#[test]
+fn a_pause_naps_at_most_four_times(rt: HostRuntime) -> Result<(), Fail> {
+    let bell = Arc::new(rt.alloc(), Bell::new())?;
+    let mut pause = Pause::new(Arc::try_clone(&bell)?, Spins::Few, true);
+    for lasts in [
+        &[false, false, false, true],
+        [false].as_slice(),
+        &[false, false],
+    ] {
+        for last in lasts {
+            pause.reset();
+            check_nap(&rt, &bell, &mut pause, *last);
+        }
+        for _ in 0..2 {
+            assert!(rt; pause.rest(&rt));
+            assert!(rt; !pause.rest(&rt));
+        }
+    }
+    Ok(())
+}
+
 // Seven or eleven pauses with spins, one more try, and then a park, which ends by itself. Nobody sees the thread rest while
 // it isn't parked.
 #[test]
 fn pauses_spin_and_park(rt: HostRuntime) -> Result<(), Fail> {
     for (spins, count) in [(Spins::Few, 7), (Spins::Many, 11)] {
         let bell = Arc::new(rt.alloc(), Bell::new())?;
-        let mut pause = Pause::new(Arc::try_clone(&bell)?, spins);
+        let mut pause = Pause::new(Arc::try_clone(&bell)?, spins, false);
         for _ in 0..2 {
             for _ in 0..count {
                 assert!(rt; !pause.rest(&rt));

@@ -186,7 +186,7 @@ fn a_rest_is_seen(rt: HostRuntime) -> Result<(), Fail> {
     for _ in 0..200 {
         let writer = Arc::new(alloc, Bell::new())?;
         let reader = Arc::new(alloc, Bell::new())?;
-        let pause = Pause::new(Arc::try_clone(&reader)?, Spins::Few);
+        let pause = Pause::new(Arc::try_clone(&reader)?, Spins::Few, false);
         let (out, inn) = ring(alloc, 4, writer, Arc::try_clone(&reader)?)?;
         let answers = thread::join(
             rt,
@@ -196,6 +196,54 @@ fn a_rest_is_seen(rt: HostRuntime) -> Result<(), Fail> {
             move || waits(rt, inn, pause),
         );
         assert_eq!(rt; answers, (false, true));
+    }
+    Ok(())
+}
+
+// Naps three times, as where something is done behind each nap, and tells the other thread.
+fn naps(rt: &impl Wait, mut out: RingOut<u64>, mut pause: Pause) -> bool
+    requires { IsOpen (put_of out) }
+{
+    for k in 0..27 {
+        if k % 9 == 0 {
+            pause.reset();
+        }
+        let _ = pause.rest(rt);
+    }
+    matches!(out.try_put(Msg::Eos), Put::Done)
+}
+
+// Tells whether the other thread was ever seen to rest before it put Eos.
+fn sees_rest(rt: &impl Wait, mut inn: RingIn<u64>, other: &Bell) -> bool {
+    let mut seen = false;
+    for _ in rt.forever() {
+        seen = seen || other.notes_rest();
+        if inn.try_take().is_some() {
+            break;
+        }
+        hint::spin_loop();
+    }
+    seen
+}
+
+// A thread that naps may have something to hand over, and isn't seen to rest.
+#[test]
+fn a_nap_is_no_rest(rt: HostRuntime) -> Result<(), Fail> {
+    let rt = &rt;
+    let alloc = rt.alloc();
+    for _ in 0..20 {
+        let writer = Arc::new(alloc, Bell::new())?;
+        let reader = Arc::new(alloc, Bell::new())?;
+        let pause = Pause::new(Arc::try_clone(&writer)?, Spins::Few, true);
+        let (out, inn) = ring(alloc, 4, Arc::try_clone(&writer)?, reader)?;
+        let answers = thread::join(
+            rt,
+            move || -> bool
+                requires { IsOpen (put_of out) }
+            { naps(rt, out, pause) },
+            move || sees_rest(rt, inn, &writer),
+        );
+        assert_eq!(rt; answers, (true, false));
     }
     Ok(())
 }
