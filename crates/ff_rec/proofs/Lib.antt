@@ -1,5 +1,6 @@
 pub mod Cuts
 pub mod Nears
+pub mod Masks
 pub mod Separators
 pub mod Digits
 pub mod Reading
@@ -9,6 +10,7 @@ pub mod Counts
 pub mod Rising
 pub mod Joins
 pub mod Places
+pub mod FieldEnds
 pub mod Filled
 pub mod Turns
 pub mod Edits

@@ -1,14 +1,15 @@
 -- Where a piece stands in a block, and what the block is after a piece was replaced.
-use Rattle.std.proofs.Common.{◌≡◌, ℕ, suc, zero, ◌+◌, ◌-◌, ◌<◌, ◌≤◌, List, [], ◌∷◌, ◌++◌, Option, Some, None, Result, Ok, Err, length, take, drop, set, get_or, refl, sym, ap, ap₂, ◌∙◌, subst, append_assoc, arith, length-append, length-drop}
-use Rattle.std.specs.Borrow.{Bor}
+use Rattle.std.proofs.Common.{◌≡◌, ℕ, suc, zero, ◌+◌, ◌-◌, ◌<◌, ◌≤◌, List, [], ◌∷◌, ◌++◌, Option, Some, None, Result, Ok, Err, length, take, drop, set, get_or, refl, sym, ap, ap₂, ◌∙◌, subst, append_assoc, arith, length-append, length-drop, take_all, take-append-drop, inl, inr}
 use Rattle.std.specs.List.{AllByRecursion}
 use Rattle.std.specs.Result.{OnOk, OnErr}
-use Rattle.std.proofs.lemmas.List.{append-nil, drop-drop, drop_at, take_at, set_split, length-set}
+use Rattle.std.proofs.lemmas.Bool.{cases_lt}
+use Rattle.std.proofs.lemmas.List.{append-nil, drop-drop, drop_more, length-take-le, drop_at, take_at, set_split, length-set}
 use Rattle.std.proofs.Math.Seq.{take-add}
 use Rattle.ff_rec.specs.Lines.{IsPlain, IsRec, cut, tabs, behind, joined}
-use Rattle.ff_rec.specs.Pieces.{Lacks, rest_cut, whole_of}
-use Rattle.ff_rec.specs.Block.{IsBlock, IsStart, IsPlace, before}
+use Rattle.ff_rec.specs.Pieces.{Lacks}
+use Rattle.ff_rec.specs.Block.{IsBlock, IsStart, IsPlace, IsFieldEnd, before}
 use Rattle.ff_rec.specs.Stored.{Stored, stored_as}
+use Rattle.ff_rec.proofs.Cuts.{cut-Lacks, cut-split}
 use Rattle.ff_rec.proofs.Joins.{HasFirst-cut, behind-is, joined-cut, cut-append, cut-joined, cut-before, Lacks-cut, Lacks-IsPlain, cut-IsPlain, IsPlain-cut, length-cut}
 
 -- the first piece begins at the front
@@ -34,43 +35,78 @@ Splits-drop (p ∷ ps) (suc k) f fs e =
     let s = Splits-drop ps k f fs e in
     record { below = omega arith; element = s.element; rest = s.rest; upto = ap (λ (q : List (List ℕ)). p ∷ q) s.upto }
 
+-- the pieces of what stands behind a tab, if one was there
+abbrev pieces_of : Option (List ℕ) → List (List ℕ)
+pieces_of None = []
+pieces_of (Some r) = cut 9 r
+
+-- the first piece, and the tab and the rest behind it
+abbrev front_and : List ℕ → Option (List ℕ) → List ℕ
+front_and front None = front
+front_and front (Some r) = front ++ 9 ∷ r
+
+-- what stands from a piece's start on: the piece, up to its end, and a rest
+record Piece (b : List ℕ) (start end : ℕ) : Type 0 where
+  front : List ℕ
+  rest : Option (List ℕ)
+  pieces : cut 9 (drop start b) ≡ front ∷ pieces_of rest
+  whole : drop start b ≡ front_and front rest
+  long : start + length front ≡ end
+
+-- by where the piece ends
+Piece-IsFieldEnd : (b : List ℕ) (start end : ℕ) → IsFieldEnd b start end → Piece b start end
+Piece-IsFieldEnd b start end h =
+    let field = take (end - start) (drop start b) in
+    let long : length field ≡ end - start = length-take-le (end - start) (drop start b) (omega (arith, length-drop start b, h.order, h.within)) in
+    let behind : drop (end - start) (drop start b) ≡ drop end b = drop-drop (end - start) start b ∙ ap (λ n. drop n b) (let e : start + (end - start) ≡ end = omega (arith, h.order) in e) in
+    elim (cases_lt end (length b)) [
+      | inl more ↦
+          let whole : drop start b ≡ field ++ 9 ∷ drop (end + 1) b =
+          sym (take-append-drop (end - start) (drop start b)) ∙ ap (λ q. field ++ q) (behind ∙ drop_more b end 0 more ∙ ap (λ c. c ∷ drop (end + 1) b) (h.tab more)) in
+          record { front = field; rest = Some (drop (end + 1) b); pieces = ap (cut 9) whole ∙ cut-split 9 field (drop (end + 1) b) h.clean; whole = whole; long = omega (arith, long, h.order) }
+      | inr all ↦
+          let same : end - start ≡ length (drop start b) = omega (arith, length-drop start b, h.order, h.within) in
+          let whole : drop start b ≡ field = sym (ap (λ n. take n (drop start b)) same ∙ take_all _ _ (omega arith)) in
+          record { front = field; rest = None; pieces = ap (cut 9) whole ∙ cut-Lacks 9 field h.clean; whole = whole; long = omega (arith, long, h.order) }
+    ]
+
 -- a piece further on
-pub IsStart-more : (b : List ℕ) (k start : ℕ) (front : List ℕ) (rest : Option (Bor (List ℕ))) → IsStart b k start → suc k < length (cut 9 b)
-    → cut 9 (drop start b) ≡ front ∷ rest_cut 9 rest → drop start b ≡ whole_of 9 front rest → IsStart b (suc k) (start + (length front + 1))
+IsStart-more : (b : List ℕ) (k start : ℕ) (front : List ℕ) (rest : Option (List ℕ)) → IsStart b k start → suc k < length (cut 9 b)
+    → cut 9 (drop start b) ≡ front ∷ pieces_of rest → drop start b ≡ front_and front rest → IsStart b (suc k) (start + (length front + 1))
 IsStart-more b k start front None s more pieces whole = absurd (omega (arith, length-drop k (cut 9 b), ap length (sym s.rest ∙ pieces)))
 IsStart-more b k start front (Some r) s more pieces whole =
-    let at = Splits-drop (cut 9 b) k front (cut 9 r.now) (sym s.rest ∙ pieces) in
-    let shape : drop start b ≡ (front ++ 9 ∷ []) ++ r.now = whole ∙ sym (append_assoc front (9 ∷ []) r.now) in
+    let at = Splits-drop (cut 9 b) k front (cut 9 r) (sym s.rest ∙ pieces) in
+    let shape : drop start b ≡ (front ++ 9 ∷ []) ++ r = whole ∙ sym (append_assoc front (9 ∷ []) r) in
     let long : length (front ++ 9 ∷ []) ≡ length front + 1 = length-append front (9 ∷ []) in
-    let behind-it : drop (start + (length front + 1)) b ≡ r.now =
-    sym (drop-drop (length front + 1) start b) ∙ ap (drop (length front + 1)) shape ∙ drop_at (front ++ 9 ∷ []) r.now (length front + 1) long in
+    let behind-it : drop (start + (length front + 1)) b ≡ r =
+    sym (drop-drop (length front + 1) start b) ∙ ap (drop (length front + 1)) shape ∙ drop_at (front ++ 9 ∷ []) r (length front + 1) long in
     record {
-      within = omega (arith, length-drop start b, ap length shape, length-append (front ++ 9 ∷ []) r.now, s.within);
+      within = omega (arith, length-drop start b, ap length shape, length-append (front ++ 9 ∷ []) r, s.within);
       front =
           take-add start (length front + 1) b
-          ∙ ap₂ ◌++◌ s.front (ap (take (length front + 1)) shape ∙ take_at (front ++ 9 ∷ []) r.now (length front + 1) long)
+          ∙ ap₂ ◌++◌ s.front (ap (take (length front + 1)) shape ∙ take_at (front ++ 9 ∷ []) r (length front + 1) long)
           ∙ sym (ap before at.upto ∙ before-append (take k (cut 9 b)) (front ∷ []));
       rest = ap (cut 9) behind-it ∙ sym at.rest;
     }
 
 -- fields behind a separator
-behind-rest : (rest : Option (Bor (List ℕ))) (front : List ℕ) → drop (length front) (whole_of 9 front rest) ≡ behind (rest_cut 9 rest)
+behind-rest : (rest : Option (List ℕ)) (front : List ℕ) → drop (length front) (front_and front rest) ≡ behind (pieces_of rest)
 behind-rest None front = ap (drop (length front)) (sym (append-nil front)) ∙ drop_at front [] (length front) refl
-behind-rest (Some r) front = drop_at front (9 ∷ r.now) (length front) refl ∙ sym (behind-is (cut 9 r.now) (HasFirst-cut 9 r.now) ∙ ap (λ (t : List ℕ). 9 ∷ t) (joined-cut r.now))
+behind-rest (Some r) front = drop_at front (9 ∷ r) (length front) refl ∙ sym (behind-is (cut 9 r) (HasFirst-cut 9 r) ∙ ap (λ (t : List ℕ). 9 ∷ t) (joined-cut r))
 
-take-whole : (rest : Option (Bor (List ℕ))) (front : List ℕ) → take (length front) (whole_of 9 front rest) ≡ front
+take-whole : (rest : Option (List ℕ)) (front : List ℕ) → take (length front) (front_and front rest) ≡ front
 take-whole None front = ap (take (length front)) (sym (append-nil front)) ∙ take_at front [] (length front) refl
-take-whole (Some r) front = take_at front (9 ∷ r.now) (length front) refl
+take-whole (Some r) front = take_at front (9 ∷ r) (length front) refl
 
-length-whole : (rest : Option (Bor (List ℕ))) (front : List ℕ) → length front ≤ length (whole_of 9 front rest)
+length-whole : (rest : Option (List ℕ)) (front : List ℕ) → length front ≤ length (front_and front rest)
 length-whole None front = omega arith
-length-whole (Some r) front = omega (arith, length-append front (9 ∷ r.now))
+length-whole (Some r) front = omega (arith, length-append front (9 ∷ r))
 
 -- a piece that was found
-pub IsPlace-here : (b : List ℕ) (k start : ℕ) (front : List ℕ) (rest : Option (Bor (List ℕ))) → IsStart b k start
-    → cut 9 (drop start b) ≡ front ∷ rest_cut 9 rest → drop start b ≡ whole_of 9 front rest → IsPlace b k start (start + length front)
+IsPlace-here : (b : List ℕ) (k start : ℕ) (front : List ℕ) (rest : Option (List ℕ)) → IsStart b k start
+    → cut 9 (drop start b) ≡ front ∷ pieces_of rest → drop start b ≡ front_and front rest → IsPlace b k start (start + length front)
 IsPlace-here b k start front rest s pieces whole =
-    let at = Splits-drop (cut 9 b) k front (rest_cut 9 rest) (sym s.rest ∙ pieces) in
+    let at = Splits-drop (cut 9 b) k front (pieces_of rest) (sym s.rest ∙ pieces) in
     let long = length-whole rest front in
     let same : start + length front - start ≡ length front = omega arith in
     record {
@@ -80,6 +116,18 @@ IsPlace-here b k start front rest s pieces whole =
       front = s.front;
       back = sym (drop-drop (length front) start b) ∙ ap (drop (length front)) whole ∙ behind-rest rest front ∙ ap behind (sym at.rest);
     }
+
+-- by where the piece ends
+pub IsPlace-IsFieldEnd : (b : List ℕ) (k start end : ℕ) → IsStart b k start → IsFieldEnd b start end → IsPlace b k start end
+IsPlace-IsFieldEnd b k start end s h =
+    let p = Piece-IsFieldEnd b start end h in
+    subst (IsPlace b k start) p.long (IsPlace-here b k start p.front p.rest s p.pieces p.whole)
+
+pub IsStart-IsFieldEnd : (b : List ℕ) (k start end : ℕ) → IsStart b k start → suc k < length (cut 9 b) → IsFieldEnd b start end → IsStart b (suc k) (end + 1)
+IsStart-IsFieldEnd b k start end s more h =
+    let p = Piece-IsFieldEnd b start end h in
+    let e : start + (length p.front + 1) ≡ end + 1 = omega (arith, p.long) in
+    subst (IsStart b (suc k)) e (IsStart-more b k start p.front p.rest s more p.pieces p.whole)
 
 -- a single piece is all bytes
 joined-one : (ps : List (List ℕ)) (bs : List ℕ) → length ps ≡ 1 → joined ps ≡ bs → ps ≡ bs ∷ []

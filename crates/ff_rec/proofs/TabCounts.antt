@@ -1,5 +1,5 @@
 -- Counting tabs part by part.
-use Rattle.std.proofs.Common.{◌≡◌, ℕ, zero, suc, ◌+◌, ◌-◌, ◌≤◌, List, [], ◌∷◌, ◌++◌, length, replicate, take, drop, refl, sym, ap, ◌∙◌, arith, take-append-drop}
+use Rattle.std.proofs.Common.{◌≡◌, ℕ, zero, suc, ◌+◌, ◌-◌, ◌≤◌, Bool, true, false, cond, eqb, List, [], ◌∷◌, ◌++◌, length, replicate, take, drop, refl, sym, ap, ◌∙◌, arith, take-append-drop}
 use Rattle.std.proofs.lemmas.List.{drop-replicate}
 use Rattle.std.specs.Prelude.{◌==◌, if◌then◌else◌}
 use Rattle.ff_rec.specs.Lines.{tabs}
@@ -8,6 +8,15 @@ use Rattle.ff_rec.proofs.WeightLaws.{weigh-append}
 -- the tabs of a front and of what stands behind it
 pub tabs-split : (bs : List ℕ) (n : ℕ) → tabs (take n bs) + tabs (drop n bs) ≡ tabs bs
 tabs-split bs n = sym (weigh-append _ (take n bs) (drop n bs)) ∙ ap tabs (take-append-drop n bs)
+
+-- they are bytes of the line
+pub tabs-le-length : (bs : List ℕ) → tabs bs ≤ length bs
+tabs-le-length [] = omega arith
+tabs-le-length (c ∷ cs) = omega (arith, one_or_none (eqb c 9), tabs-le-length cs)
+  where
+    one_or_none : (b : Bool) → (cond b 1 0) ≤ 1
+    one_or_none true = omega arith
+    one_or_none false = omega arith
 
 -- zeros hold none
 tabs-zeros : (m n : ℕ) → tabs (take m (replicate n 0)) ≡ 0

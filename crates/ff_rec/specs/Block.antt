@@ -1,7 +1,8 @@
 -- The block of a record, and where a field stands in it.
-use Rattle.std.specs.Prelude.{◌≡◌, ℕ, suc, ◌≤◌, List, [], ◌∷◌, ◌++◌, length, take, drop, slice_range, slice_index_or}
+use Rattle.std.specs.Prelude.{◌≡◌, ℕ, suc, ◌-◌, ◌<◌, ◌≤◌, List, [], ◌∷◌, ◌++◌, length, take, drop, slice_range, slice_index, slice_index_or}
 use Rattle.std.specs.List.{AllByRecursion}
 use Rattle.ff_rec.specs.Lines.{IsPlain, cut, behind}
+use Rattle.ff_rec.specs.Pieces.{Lacks}
 
 -- a block of `count` fields, joined by tabs
 pub record IsBlock (block : List ℕ) (count : ℕ) : Type 0 where
@@ -27,6 +28,13 @@ pub record IsPlace (block : List ℕ) (k start end : ℕ) : Type 0 where
   pub here : slice_range block start end ≡ slice_index_or (cut 9 block) k []
   pub front : take start block ≡ before (take k (cut 9 block))
   pub back : drop end block ≡ behind (drop (suc k) (cut 9 block))
+
+-- the field that begins at `start` ends at `end`: no tab stands within, and one behind it where more bytes come
+pub record IsFieldEnd (block : List ℕ) (start end : ℕ) : Type 0 where
+  pub order : start ≤ end
+  pub within : end ≤ length block
+  pub clean : Lacks 9 (take (end - start) (drop start block))
+  pub tab : end < length block → slice_index block end ≡ 9
 
 -- the bytes with others in the place of those from `start` up to `end`
 abbrev pub replaced : List ℕ → ℕ → ℕ → List ℕ → List ℕ

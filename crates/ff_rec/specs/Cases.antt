@@ -1,4 +1,4 @@
--- Bytes in capitals or in small letters.
+-- Bytes in capitals or in small letters, of ASCII.
 use Rattle.std.specs.Prelude.{ℕ, List, map}
 use Rattle.std.specs.Char.{to_ascii_uppercase, to_ascii_lowercase}
 use Rattle.ff_rec.specs.declared.case.Case.{Case}

@@ -6,45 +6,36 @@ ghost use Rattle.ff_rec.specs.Stored.{stored_as};
 
 mod edits;
 
+use crate::NoMemory;
 use crate::bytes::Bytes;
-use crate::{NoMemory, split_near};
 pub use edits::{exchange, keep, set_case, take_out};
 
-/// Where field `k` of a block of `count` fields, counted from 0, begins and ends.
+/// Where field `k`, counted from 0, begins and ends.
 #[inline]
-pub fn place(block: &[u8], count: usize, k: usize) -> (usize, usize)
-    requires count { count ≡ length (cut 9 block.now) }
-    requires there { k < length (cut 9 block.now) }
-    ensures { IsPlace block.now k result.0 result.1 }
-{
-    let start = start_of(block, k);
-    if k + 1 == count {
-        return (start, block.len());
-    }
-    let (field, _) = split_near(&block[start..], b'\t');
-    (start, start + field.len())
-}
-
-// Where field `k` of a block, counted from 0, begins.
-fn start_of(block: &[u8], k: usize) -> usize
-    requires { k < length (cut 9 block.now) }
-    ensures { IsStart block.now k result }
-{
-    let mut start = 0;
-    for i in 0..k {
-        let (field, _) = split_near(&block[start..], b'\t');
-        start += field.len() + 1;
-    }
-    start
-}
-
-// Where field `k`, counted from 0, begins and ends.
-fn place_in(block: &Bytes, k: usize) -> (usize, usize)
+pub fn place(block: &Bytes, k: usize) -> (usize, usize)
     requires count { block.now.count ≡ length (cut 9 block.now.items) }
     requires there { k < length (cut 9 block.now.items) }
     ensures { IsPlace block.now.items k result.0 result.1 }
 {
-    place(block.as_slice(), usize::from(block.count()), k)
+    let count = usize::from(block.count());
+    let start = start_of(block, k);
+    if k + 1 == count {
+        return (start, block.as_slice().len());
+    }
+    (start, block.field_end(start))
+}
+
+// Where field `k`, counted from 0, begins.
+#[inline]
+fn start_of(block: &Bytes, k: usize) -> usize
+    requires { k < length (cut 9 block.now.items) }
+    ensures { IsStart block.now.items k result }
+{
+    let mut start = 0;
+    for i in 0..k {
+        start = block.field_end(start) + 1;
+    }
+    start
 }
 
 /// Puts other bytes in the place of field `k`, counted from 0. After a refusal the block is unchanged.
@@ -57,7 +48,7 @@ pub fn put(block: &mut Bytes, k: usize, by: &[u8]) -> Result<(), NoMemory>
     ensures kept { IsBlock block.old.items block.old.count
         → IsBlock block.new.items block.new.count }
 {
-    let (start, end) = place_in(block, k);
+    let (start, end) = place(block, k);
     block.replace(start, end, by)
 }
 

@@ -1,6 +1,6 @@
 // The bytes of a record and the number of its fields: in place where the bytes are few, else in one heap block.
-ghost use Rattle.std.specs.Prelude.{◌≡◌, ◌+◌, ◌++◌, ◌<◌, ◌≤◌, length, take, drop, slice_range, IfOk, OnOk, OnErr, IsErrOf};
-ghost use Rattle.ff_rec.specs.Block.{parts_swapped, replaced};
+ghost use Rattle.std.specs.Prelude.{◌≡◌, ◌+◌, ◌^◌, ◌++◌, ◌<◌, ◌≤◌, length, take, drop, slice_range, IfOk, OnOk, OnErr, IsErrOf};
+ghost use Rattle.ff_rec.specs.Block.{IsFieldEnd, parts_swapped, replaced};
 ghost use Rattle.ff_rec.specs.Cases.{in_case};
 ghost use Rattle.ff_rec.specs.Lines.{tabs};
 ghost use Rattle.ff_rec.specs.Stored.{stored_as};
@@ -10,7 +10,8 @@ mod long;
 mod parts;
 mod short;
 
-use crate::tabs::count_tabs;
+use crate::near::{NEAR, tabs_near};
+use crate::tabs::{count_tabs, field_end};
 use crate::{Case, CutFault, MOST_FIELDS, NoMemory};
 use long::{keep, narrow, replace};
 use parts::swap_parts;
@@ -64,6 +65,19 @@ impl Bytes {
             Held::Many(count, Vec::from_slice(alloc, bytes)?)
         };
         Ok(Bytes { held, alloc })
+    }
+
+    /// As `of_line` of the first `len` bytes of a longer text. It takes no memory.
+    #[inline(always)]
+    pub fn of_near_line(alloc: Global, text: &[u8], len: usize) -> Bytes
+        requires near { len ≤ NEAR }
+        requires long { SHORT ≤ length text.now }
+        ensures { result ≡ stored_as (take len text.now) (tabs (take len text.now) + 1) }
+    {
+        Bytes {
+            held: Held::Few(tabs_near(text, len) + 1, Short::of_front(text, len)),
+            alloc,
+        }
     }
 
     /// The bytes of a line, with the number of its fields.
@@ -122,6 +136,19 @@ impl Bytes {
         match &self.held {
             Held::Few(_, short) => short.as_slice(),
             Held::Many(_, block) => block.as_slice(),
+        }
+    }
+
+    /// Where the field that begins at `start` ends: before a tab, or with the bytes.
+    #[inline]
+    pub fn field_end(&self, start: usize) -> usize
+        requires { start ≤ length self.now.items }
+        ensures end { IsFieldEnd self.now.items start result }
+        ensures below { result < 2 ^ 63 }
+    {
+        match &self.held {
+            Held::Few(_, short) => short.field_end(start),
+            Held::Many(_, block) => field_end(block.as_slice(), start),
         }
     }
 

@@ -1,4 +1,4 @@
-// Capitals and small letters.
+// Capitals and small letters, of ASCII.
 ghost use Rattle.std.specs.Prelude.{◌≡◌};
 ghost use Rattle.ff_rec.specs.Cases.{in_case};
 

@@ -11,6 +11,7 @@ mod laws;
 mod limits;
 mod line_reader;
 mod msg;
+mod near;
 mod number;
 mod pieces;
 mod record;

@@ -115,7 +115,7 @@ impl LineReader {
         if line.is_empty() {
             return Ok(());
         }
-        match push_line(*self.progress.line.allocator(), line, into) {
+        match push_line(*self.progress.line.allocator(), line, line.len(), into) {
             Ok(()) => Ok(()),
             // The line is within the limits.
             Err(_) => Err(NoMemory),

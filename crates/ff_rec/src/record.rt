@@ -1,7 +1,9 @@
 // A record: one block of bytes that holds its fields joined by tabs.
-ghost use Rattle.std.specs.Prelude.{◌≡◌, ◌↔◌, ◌-◌, ◌<◌, ◌≤◌, [], ◌∷◌, ◌++◌, length, slice_set, Some, None, IfOk, IfSome, OnSome, OnOk, OnErr, IsErrOf, MatchOption};
+ghost use Rattle.std.specs.Prelude.{◌≡◌, ◌↔◌, ◌-◌, ◌<◌, ◌≤◌, [], ◌∷◌, ◌++◌, length, take, slice_set, Some, None, IfOk, IfSome, OnSome, OnOk, OnErr, IsErrOf, MatchOption};
 ghost use Rattle.ff_rec.specs.declared.fault.PushFault.TheVariants.{Full};
 ghost use Rattle.ff_rec.specs.declared.fault.CutFault.TheVariants.{TooManyFields};
+ghost use Rattle.ff_rec.specs.declared.bytes.short.TheConstants.{SHORT};
+ghost use Rattle.ff_rec.specs.declared.near.TheConstants.{NEAR};
 ghost use Rattle.ff_rec.specs.Fields.{field_at, number_in};
 ghost use Rattle.ff_rec.specs.Lines.{IsPlain, IsRec, cut, tabs, joined, line_of};
 ghost use Rattle.ff_rec.specs.Number.{printed};
@@ -67,6 +69,19 @@ impl Record {
         })
     }
 
+    /// As `of_line` of the first `len` bytes of a longer text. It takes no memory.
+    #[inline(always)]
+    pub(crate) fn of_near_line(alloc: Global, text: &[u8], len: usize) -> Record
+        requires near { len ≤ NEAR }
+        requires long { SHORT ≤ length text.now }
+        requires clean { Lacks 10 (take len text.now) }
+        ensures { result ≡ cut 9 (take len text.now) }
+    {
+        Record {
+            block: Bytes::of_near_line(alloc, text, len),
+        }
+    }
+
     /// How many fields it has.
     pub fn len(&self) -> usize
         ensures len { result ≡ length self.now }
@@ -85,9 +100,8 @@ impl Record {
         if k == 0 || count < k {
             return None;
         }
-        let block = self.block.as_slice();
-        let (start, end) = place(block, count, k - 1);
-        Some(&block[start..end])
+        let (start, end) = place(&self.block, k - 1);
+        Some(&self.block.as_slice()[start..end])
     }
 
     /// The number in field `k`, counted from 1, where the field is there and is a number.

@@ -1,6 +1,9 @@
-// Counting tabs.
-ghost use Rattle.std.specs.Prelude.{◌≡◌, ◌≤◌, length};
+// Tabs: how many stand in a line, and where they end its fields.
+ghost use Rattle.std.specs.Prelude.{◌≡◌, ◌<◌, ◌≤◌, ◌^◌, length};
+ghost use Rattle.ff_rec.specs.Block.{IsFieldEnd};
 ghost use Rattle.ff_rec.specs.Lines.{tabs};
+
+use crate::split_near;
 
 /// So many bytes are counted in one byte, which compiles to wide vectors.
 const PART: usize = 255;
@@ -32,4 +35,14 @@ pub fn count_few(part: &[u8]) -> u8
         count += u8::from(*byte == b'\t');
     }
     count
+}
+
+/// Where the field that begins at `start` ends: before a tab, or with the bytes.
+pub fn field_end(bytes: &[u8], start: usize) -> usize
+    requires { start ≤ length bytes.now }
+    ensures end { IsFieldEnd bytes.now start result }
+    ensures below { result < 2 ^ 63 }
+{
+    let (field, _) = split_near(&bytes[start..], b'\t');
+    start + field.len()
 }

@@ -1,4 +1,4 @@
-// Fields of a block that go and change places.
+// Fields of a block that go, change places and change their case.
 ghost use Rattle.std.specs.Prelude.{◌≡◌, ◌<◌, ◌≤◌, [], length, slice_index_or, slice_set};
 ghost use Rattle.std.specs.List.{remove, swap};
 ghost use Rattle.ff_rec.specs.Block.{IsBlock};
@@ -6,7 +6,7 @@ ghost use Rattle.ff_rec.specs.Cases.{in_case};
 ghost use Rattle.ff_rec.specs.Lines.{cut};
 ghost use Rattle.ff_rec.specs.Stored.{stored_as};
 
-use super::place_in;
+use super::place;
 use crate::Case;
 use crate::bytes::Bytes;
 
@@ -18,7 +18,7 @@ pub fn take_out(block: &mut Bytes, k: usize)
     ensures fields { cut 9 block.new.items ≡ remove (cut 9 block.old.items) k }
     ensures count { block.new.count ≡ block.old.count }
 {
-    let (start, end) = place_in(block, k);
+    let (start, end) = place(block, k);
     let len = block.as_slice().len();
     if end < len {
         block.remove(start, end + 1);
@@ -35,7 +35,7 @@ pub fn set_case(block: &mut Bytes, k: usize, case: Case)
         ≡ slice_set (cut 9 block.old.items) k (in_case case (slice_index_or (cut 9 block.old.items) k [])) }
     ensures block { IsBlock block.new.items block.new.count }
 {
-    let (start, end) = place_in(block, k);
+    let (start, end) = place(block, k);
     block.set_case(start, end, case);
 }
 
@@ -45,7 +45,7 @@ pub fn keep(block: &mut Bytes, k: usize)
     requires there { k < length (cut 9 block.old.items) }
     ensures { block.new ≡ stored_as (slice_index_or (cut 9 block.old.items) k []) block.old.count }
 {
-    let (start, end) = place_in(block, k);
+    let (start, end) = place(block, k);
     block.keep(start, end);
 }
 
@@ -72,7 +72,7 @@ fn exchange_ordered(block: &mut Bytes, i: usize, j: usize)
     ensures fields { cut 9 block.new.items ≡ swap (cut 9 block.old.items) i j }
     ensures count { block.new.count ≡ block.old.count }
 {
-    let (first, first_end) = place_in(block, i);
-    let (second, second_end) = place_in(block, j);
+    let (first, first_end) = place(block, i);
+    let (second, second_end) = place(block, j);
     block.swap(first, first_end, second, second_end);
 }

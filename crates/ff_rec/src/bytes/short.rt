@@ -1,12 +1,13 @@
 // A few bytes that stand in place.
-ghost use Rattle.std.specs.Prelude.{◌≡◌, ◌+◌, ◌-◌, ◌++◌, ◌≤◌, length, take, drop, slice_range};
-ghost use Rattle.ff_rec.specs.Block.{parts_swapped, replaced};
+ghost use Rattle.std.specs.Prelude.{◌≡◌, ◌+◌, ◌-◌, ◌^◌, ◌++◌, ◌<◌, ◌≤◌, length, take, drop, slice_range};
+ghost use Rattle.ff_rec.specs.Block.{IsFieldEnd, parts_swapped, replaced};
 ghost use Rattle.ff_rec.specs.Cases.{in_case};
 ghost use Rattle.ff_rec.specs.Lines.{tabs};
 
 use super::parts::swap_parts;
 use crate::Case;
-use crate::tabs::count_few;
+use crate::near::{NEAR, first_near};
+use crate::tabs::{count_few, field_end};
 use std::marker::Model;
 
 /// So many bytes have room in place. With their length and what stands before them they fill 48 bytes.
@@ -47,6 +48,23 @@ impl Short {
         }
     }
 
+    /// The first `len` bytes of a text. As many as have room are copied, which takes no call: what stands behind `len` counts for
+    /// nothing.
+    #[inline(always)]
+    pub fn of_front(text: &[u8], len: usize) -> Short
+        requires few { len ≤ SHORT }
+        requires long { SHORT ≤ length text.now }
+        ensures { result ≡ take len text.now }
+    {
+        let mut bytes = [0; SHORT];
+        bytes.copy_from_slice(&text[..SHORT]);
+        Short {
+            align: [],
+            len: len as u8,
+            bytes,
+        }
+    }
+
     /// The bytes of a line, and how many tabs stand among them.
     #[inline]
     pub fn of_line(line: &[u8]) -> (Short, u8)
@@ -57,6 +75,7 @@ impl Short {
     {
         let mut room = [0; SHORT];
         room[..line.len()].copy_from_slice(line);
+        // Behind the line stand zeros, which are no tabs: to count in whole steps of eight bytes spares a loop over the last few.
         let tab_count = count_few(&room[..line.len().next_multiple_of(8).min(SHORT)]);
         let short = Short {
             align: [],
@@ -73,6 +92,24 @@ impl Short {
         ensures few { length self.now ≤ SHORT }
     {
         &self.bytes[..usize::from(self.len)]
+    }
+
+    /// Where the field that begins at `start` ends: before a tab, or with the bytes.
+    #[inline]
+    pub fn field_end(&self, start: usize) -> usize
+        requires { start ≤ length self.now }
+        ensures end { IsFieldEnd self.now start result }
+        ensures below { result < 2 ^ 63 }
+    {
+        let len = usize::from(self.len);
+        if SHORT < start + NEAR || start + NEAR < len {
+            return field_end(self.as_slice(), start);
+        }
+        // A tab that is found behind the bytes is none of theirs.
+        match first_near(b'\t', &self.bytes[start..]) {
+            Some(at) => len.min(start + at),
+            None => len,
+        }
     }
 
     /// How many bytes more have room.

@@ -1,11 +1,13 @@
 // One line: the first limit that it passes, and its record.
-ghost use Rattle.std.specs.Prelude.{◌≡◌, ◌++◌, ◌∷◌, ◌<◌, ◌≤◌, [], length, Some, None, IfErr, OnOk, OnErr, IsErrOf};
-ghost use Rattle.ff_rec.specs.declared.fault.CutFault.TheVariants.{TooManyFields};
+ghost use Rattle.std.specs.Prelude.{◌≡◌, ◌++◌, ◌∷◌, ◌<◌, ◌≤◌, [], length, take, Some, None, IfErr, OnOk, OnErr, IsErrOf};
+ghost use Rattle.ff_rec.specs.declared.fault.CutFault.TheVariants.{TooManyFields, NoMemory};
 ghost use Rattle.ff_rec.specs.Lines.{cut, tabs};
 ghost use Rattle.ff_rec.specs.Pieces.{Lacks};
 ghost use Rattle.ff_rec.specs.Progress.{IsLineFault};
 ghost use Rattle.ff_rec.specs.Reading.{line_fault};
 
+use crate::bytes::SHORT;
+use crate::near::NEAR;
 use crate::tabs::count_tabs;
 use crate::{CutFault, FeedFault, LineFault, MOST_FIELDS, Record};
 use std::alloc::Global;
@@ -45,41 +47,62 @@ fn limit_of_long(limit: usize, number: u64, line: &[u8]) -> LineFault
     LineFault::TooLong(number)
 }
 
-/// Appends the record of a line. After a refusal `into` is unchanged.
+/// Appends the record of the line that the first `len` bytes of a text are. After a refusal `into` is unchanged.
 #[inline(always)]
-pub fn push_line(alloc: Global, line: &[u8], into: &mut Vec<Record>) -> Result<(), CutFault>
-    requires { Lacks 10 line.now }
-    ensures ok { OnOk result (into.new.items ≡ into.old.items ++ cut 9 line.now ∷ []) }
-    ensures few { OnOk result (tabs line.now ≤ 63) }
-    ensures too_many { IsErrOf result TooManyFields → 63 < tabs line.now }
+pub fn push_line(
+    alloc: Global,
+    text: &[u8],
+    len: usize,
+    into: &mut Vec<Record>,
+) -> Result<(), CutFault>
+    requires there { len ≤ length text.now }
+    requires clean { Lacks 10 (take len text.now) }
+    ensures ok { OnOk result (into.new.items ≡ into.old.items ++ cut 9 (take len text.now) ∷ []) }
+    ensures few { OnOk result (tabs (take len text.now) ≤ 63) }
+    ensures too_many { IsErrOf result TooManyFields → 63 < tabs (take len text.now) }
     ensures err { OnErr result (into.new.items ≡ into.old.items) }
 {
-    let record = Record::of_line(alloc, line)?;
+    if len <= NEAR && SHORT <= text.len() {
+        return push(Record::of_near_line(alloc, text, len), into);
+    }
+    push(Record::of_line(alloc, &text[..len])?, into)
+}
+
+// Appends a record. After a refusal `into` is unchanged.
+#[inline(always)]
+fn push(record: Record, into: &mut Vec<Record>) -> Result<(), CutFault>
+    ensures ok { OnOk result (into.new.items ≡ into.old.items ++ «record» ∷ []) }
+    ensures err { OnErr result (into.new.items ≡ into.old.items) }
+    ensures memory { IfErr result (λ f. f ≡ NoMemory) }
+{
     match into.push(record) {
         Ok(()) => Ok(()),
         Err(_) => Err(CutFault::NoMemory),
     }
 }
 
-/// Appends the record of a whole line, if it passes no limit. After a refusal `into` is unchanged.
+/// Appends the record of the whole line that the first `len` bytes of a text are, if it passes no limit. After a refusal
+/// `into` is unchanged.
 #[inline(always)]
 pub fn push_whole(
     alloc: Global,
     limit: usize,
     number: u64,
-    line: &[u8],
+    text: &[u8],
+    len: usize,
     into: &mut Vec<Record>,
 ) -> Result<(), FeedFault>
-    requires { Lacks 10 line.now }
-    ensures ok { OnOk result (into.new.items ≡ into.old.items ++ cut 9 line.now ∷ []) }
-    ensures fits { OnOk result (line_fault limit number line.now ≡ None) }
-    ensures fault { IfErr result (λ f. IsLineFault f (line_fault limit number line.now)) }
+    requires there { len ≤ length text.now }
+    requires clean { Lacks 10 (take len text.now) }
+    ensures ok { OnOk result (into.new.items ≡ into.old.items ++ cut 9 (take len text.now) ∷ []) }
+    ensures fits { OnOk result (line_fault limit number (take len text.now) ≡ None) }
+    ensures fault { IfErr result (λ f. IsLineFault f (line_fault limit number (take len text.now))) }
     ensures err { OnErr result (into.new.items ≡ into.old.items) }
 {
-    if limit < line.len() {
-        return Err(FeedFault::Line(limit_of_long(limit, number, line)));
+    if limit < len {
+        return Err(FeedFault::Line(limit_of_long(limit, number, &text[..len])));
     }
-    match push_line(alloc, line, into) {
+    match push_line(alloc, text, len, into) {
         Ok(()) => Ok(()),
         Err(CutFault::TooManyFields) => Err(FeedFault::Line(LineFault::TooManyFields(number))),
         Err(CutFault::NoMemory) => Err(FeedFault::NoMemory),

@@ -58,7 +58,7 @@ fn read_within(
         match split(left, b'\n') {
             (part, None) => return keep_part(limits, progress, part),
             (part, Some(behind)) => {
-                end_line(limits, progress, part, into)?;
+                end_line(limits, progress, left, part.len(), into)?;
                 left = behind;
             }
         }
@@ -96,36 +96,40 @@ pub fn keep_part(limits: Limits, progress: &mut Progress, part: &[u8]) -> Result
     }
 }
 
-// Appends the record of a line whose last part stands before a newline. After a refusal `into` is unchanged.
+// Appends the record of a line whose last part, the first `len` bytes of a text, stands before a newline. After a refusal
+// `into` is unchanged.
 #[inline(always)]
 fn end_line(
     limits: Limits,
     progress: &mut Progress,
-    part: &[u8],
+    text: &[u8],
+    len: usize,
     into: &mut Vec<Record>,
 ) -> Result<(), FeedFault>
     requires ready { IsReady limits progress.old }
-    requires room { progress.old.taken + length part.now + 1 ≤ limits.input }
-    requires clean { Lacks 10 part.now }
-    ensures ok { OnOk result (EndsLine limits progress.old progress.new part.now) }
+    requires there { len ≤ length text.now }
+    requires room { progress.old.taken + len + 1 ≤ limits.input }
+    requires clean { Lacks 10 (take len text.now) }
+    ensures ok { OnOk result (EndsLine limits progress.old progress.new (take len text.now)) }
     ensures record { OnOk result (into.new.items
-        ≡ into.old.items ++ cut 9 (progress.old.line.items ++ part.now) ∷ []) }
+        ≡ into.old.items ++ cut 9 (progress.old.line.items ++ take len text.now) ∷ []) }
     ensures fault { IfErr result (λ f. IsLineFault f
-        (line_fault limits.line (progress.old.ended + 1) (progress.old.line.items ++ part.now))) }
+        (line_fault limits.line (progress.old.ended + 1) (progress.old.line.items ++ take len text.now))) }
     ensures err { OnErr result (into.new.items ≡ into.old.items) }
 {
     if !progress.line.is_empty() {
-        return end_kept(limits, progress, part, into);
+        return end_kept(limits, progress, &text[..len], into);
     }
     // The line lies whole in the piece: it isn't copied first.
     push_whole(
         *progress.line.allocator(),
         limits.line,
         progress.ended + 1,
-        part,
+        text,
+        len,
         into,
     )?;
-    progress.taken += part.len() as u64 + 1;
+    progress.taken += len as u64 + 1;
     progress.ended += 1;
     Ok(())
 }
@@ -153,6 +157,7 @@ fn end_kept(
         limits.line,
         progress.ended + 1,
         progress.line.as_slice(),
+        progress.line.len(),
         into,
     )?;
     progress.line.clear();

@@ -1,4 +1,4 @@
-// Fields of a record that come, go and change places.
+// Fields of a record that come, go, change places and change their case.
 ghost use Rattle.std.specs.Prelude.{◌≡◌, ◌↔◌, ◌-◌, ◌≤◌, [], ◌∷◌, length, slice_index_or, slice_set, OnOk, OnErr, IsErrOf};
 ghost use Rattle.std.specs.List.{remove, swap};
 ghost use Rattle.ff_rec.specs.Cases.{in_case};

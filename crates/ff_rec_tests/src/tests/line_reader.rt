@@ -238,3 +238,52 @@ fn finish_gives_a_last_line_without_a_newline(rt: HostRuntime) -> Result<(), Fai
     check_whole(&rt, alloc, b"a\n\n", b"a\n\n")?;
     check_whole(&rt, alloc, b"a\n\nb", b"a\n\nb\n")
 }
+
+// A line of `len` bytes in two fields, the first of `first`.
+fn two_fields(alloc: Global, first: usize, len: usize) -> Result<Vec<u8>, Fail> {
+    let mut line = Vec::new(alloc);
+    line.resize(first, b'a')?;
+    line.push(b'\t')?;
+    line.resize(len, b'b')?;
+    Ok(line)
+}
+
+// It is read alike whether a long text stands behind it, with tabs, or nothing does.
+fn check_two_fields(
+    rt: &impl Abort,
+    alloc: Global,
+    first: usize,
+    len: usize,
+    behind: &[u8],
+) -> Result<(), Fail> {
+    let line = two_fields(alloc, first, len)?;
+    let mut text = line.clone()?;
+    text.push(b'\n')?;
+    text.extend_from_slice(behind)?;
+    let mut reader = LineReader::new(alloc, 65_536, 1 << 40)?;
+    let mut into = Vec::new(alloc);
+    feed(rt, &mut reader, &text, &mut into, Ok(()));
+    assert_eq!(rt; into.len(), 1, "{first} of {len}");
+    assert_eq!(rt; into[0].joined(), line.as_slice(), "{first} of {len}");
+    assert_eq!(rt; into[0].len(), 2, "{first} of {len}");
+    assert_eq!(rt; into[0].field(1), Some(&line[..first]), "{first} of {len}");
+    assert_eq!(rt;
+        into[0].field(2),
+        Some(&line[first + 1..]),
+        "{first} of {len}"
+    );
+    Ok(())
+}
+
+#[test]
+fn a_line_is_the_same_whatever_stands_behind_it(rt: HostRuntime) -> Result<(), Fail> {
+    let alloc = rt.alloc();
+    let behind = b"0\t1\t2\t3\t4\t5\t6\t7\t8\t9\t0\t1\t2\t3\t4\t5\t6\t7\t8\t9\t";
+    for first in 0..45 {
+        check_two_fields(&rt, alloc, first, first + 1, behind)?;
+        check_two_fields(&rt, alloc, first, 45, behind)?;
+        check_two_fields(&rt, alloc, first, first + 1, b"")?;
+        check_two_fields(&rt, alloc, 0, first + 1, behind)?;
+    }
+    Ok(())
+}

@@ -26,4 +26,20 @@ fn cuts_at_the_first_separator(rt: HostRuntime) {
     check(&rt, "abcdefghijkl\tm\t", b"abcdefghijkl", Some(b"m\t"));
     check(&rt, "abcdefghijklm\tn", b"abcdefghijklm", Some(b"n"));
     check(&rt, "abcdefghijklmn", b"abcdefghijklmn", None);
+    // Near the last of the bytes that are looked at all at once.
+    let front = "0123456789012345678901234567890";
+    check(
+        &rt,
+        "0123456789012345678901234567890\ta\tb",
+        front.as_bytes(),
+        Some(b"a\tb"),
+    );
+    let front = "01234567890123456789012345678901";
+    check(
+        &rt,
+        "01234567890123456789012345678901\ta\tb",
+        front.as_bytes(),
+        Some(b"a\tb"),
+    );
+    check(&rt, front, front.as_bytes(), None);
 }

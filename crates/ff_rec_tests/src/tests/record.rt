@@ -344,3 +344,20 @@ fn a_record_is_the_same_in_place_and_in_a_heap_block(rt: HostRuntime) -> Result<
     assert_eq!(rt; size_of::<Record>(), 48);
     Ok(())
 }
+
+#[test]
+fn a_tab_behind_a_shortened_record_is_no_end_of_a_field(rt: HostRuntime) -> Result<(), Fail> {
+    let mut r = record_of(rt.alloc(), b"abcdef\tg\th\ti")?;
+    remove(&rt, &mut r, 1);
+    expect_fields(&rt, &r, 3, b"g", Some(b"i"));
+    remove(&rt, &mut r, 1);
+    remove(&rt, &mut r, 1);
+    expect_fields(&rt, &r, 1, b"i", None);
+    let mut r = record_of(rt.alloc(), b"abcdef\tg\th")?;
+    keep_only(&rt, &mut r, 2);
+    expect_fields(&rt, &r, 1, b"g", None);
+    let longer = Field::new(rt.alloc(), b"gg")?;
+    set(&rt, &mut r, 1, &longer)?;
+    expect_fields(&rt, &r, 1, b"gg", None);
+    Ok(())
+}

@@ -11,7 +11,7 @@ returns c =
     let old = c.args.block.now in
     let by = c.args.by.now in
     let changed =
-    cut-replaced old.items c.args.k c.place_in-start.result.0 c.place_in-start.result.1 by c.place_in-start.ensures c.requires.there c.requires.plain in
+    cut-replaced old.items c.args.k c.place-start.result.0 c.place-start.result.1 by c.place-start.ensures c.requires.there c.requires.plain in
     record {
       ok = on_ok_weaker c.replace.result (λ e. ap (λ (b : Stored). cut 9 b.items) e ∙ changed) c.replace.ensures.ok;
       err = c.replace.ensures.err;

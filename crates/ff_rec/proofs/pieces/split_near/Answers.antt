@@ -18,18 +18,18 @@ returns-clause-pieces c =
     let sep = c.args.separator in
     let bytes = c.args.bytes.now in
     let near = c.lacking-near.result in
-    let rest : drop near bytes ≡ whole_of sep c.split.result.0.now c.split.result.1 = sym (take_rest bytes near) ∙ c.split.ensures.whole in
-    let clean = Lacks-front sep bytes near c.split.result.0.now c.split.result.1 c.lacking-near.ensures.within rest c.lacking-near.ensures.clean c.split.ensures.clean in
-    ap (cut sep) (whole_of-all sep bytes near c.split.result.0.now c.split.result.1 c.lacking-near.ensures.within rest) ∙ cut-whole_of sep _ c.split.result.1 clean
+    let rest : drop near bytes ≡ whole_of sep c.split_far.result.0.now c.split_far.result.1 = sym (take_rest bytes near) ∙ c.split_far.ensures.whole in
+    let clean = Lacks-front sep bytes near c.split_far.result.0.now c.split_far.result.1 c.lacking-near.ensures.within rest c.lacking-near.ensures.clean c.split_far.ensures.clean in
+    ap (cut sep) (whole_of-all sep bytes near c.split_far.result.0.now c.split_far.result.1 c.lacking-near.ensures.within rest) ∙ cut-whole_of sep _ c.split_far.result.1 clean
 
 pub returns-clause-whole : goal.returns-clause-whole
 returns-clause-whole c =
     let bytes = c.args.bytes.now in
     let near = c.lacking-near.result in
-    whole_of-all c.args.separator bytes near c.split.result.0.now c.split.result.1 c.lacking-near.ensures.within (sym (take_rest bytes near) ∙ c.split.ensures.whole)
+    whole_of-all c.args.separator bytes near c.split_far.result.0.now c.split_far.result.1 c.lacking-near.ensures.within (sym (take_rest bytes near) ∙ c.split_far.ensures.whole)
 
 pub returns-clause-clean : goal.returns-clause-clean
 returns-clause-clean c =
     let bytes = c.args.bytes.now in
     let near = c.lacking-near.result in
-    Lacks-front c.args.separator bytes near c.split.result.0.now c.split.result.1 c.lacking-near.ensures.within (sym (take_rest bytes near) ∙ c.split.ensures.whole) c.lacking-near.ensures.clean c.split.ensures.clean
+    Lacks-front c.args.separator bytes near c.split_far.result.0.now c.split_far.result.1 c.lacking-near.ensures.within (sym (take_rest bytes near) ∙ c.split_far.ensures.whole) c.lacking-near.ensures.clean c.split_far.ensures.clean

@@ -9,12 +9,12 @@ pub swap-requires-clause-apart : goal.swap-requires-clause-apart
 swap-requires-clause-apart c =
     omega (
       arith,
-      apart c.args.block.now.items c.args.i c.place_in-first.result.0 c.place_in-first.result.1 c.args.j c.place_in-second.result.0 c.place_in-second.result.1
-          c.place_in-first.ensures c.place_in-second.ensures c.requires.order c.requires.there,
+      apart c.args.block.now.items c.args.i c.place-first.result.0 c.place-first.result.1 c.args.j c.place-second.result.0 c.place-second.result.1
+          c.place-first.ensures c.place-second.ensures c.requires.order c.requires.there,
     )
 
 pub returns-clause-fields : goal.returns-clause-fields
 returns-clause-fields c =
     ap (λ (b : Stored). cut 9 b.items) c.swap.ensures
-    ∙ cut-swapped c.args.block.now.items c.args.i c.place_in-first.result.0 c.place_in-first.result.1 c.args.j c.place_in-second.result.0 c.place_in-second.result.1
-    c.place_in-first.ensures c.place_in-second.ensures c.requires.order c.requires.there
+    ∙ cut-swapped c.args.block.now.items c.args.i c.place-first.result.0 c.place-first.result.1 c.args.j c.place-second.result.0 c.place-second.result.1
+    c.place-first.ensures c.place-second.ensures c.requires.order c.requires.there

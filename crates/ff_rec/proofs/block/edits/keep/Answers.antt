@@ -4,4 +4,4 @@ use Rattle.ff_rec.specs.Stored.{stored_as}
 use Rattle.ff_rec.proofs.block.edits.keep.Goals as goal
 
 pub returns : goal.returns
-returns c = c.keep.ensures ∙ ap (λ (q : List ℕ). stored_as q c.args.block.now.count) c.place_in-start.ensures.here
+returns c = c.keep.ensures ∙ ap (λ (q : List ℕ). stored_as q c.args.block.now.count) c.place-start.ensures.here

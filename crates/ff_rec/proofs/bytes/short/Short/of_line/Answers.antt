@@ -1,5 +1,5 @@
 -- Behind the line stand zeros, which are no tabs.
-use Rattle.std.proofs.Common.{◌≡◌, List, ℕ, ◌++◌, length, replicate, take, drop, ap, ◌∙◌, arith}
+use Rattle.std.proofs.Common.{List, ℕ, ◌++◌, length, replicate, take, drop, ap, ◌∙◌, arith}
 use Rattle.ff_rec.specs.Lines.{tabs}
 use Rattle.ff_rec.proofs.TabCounts.{tabs-padded}
 use Rattle.ff_rec.proofs.bytes.short.Short.of_line.Goals as goal
