@@ -12,6 +12,3 @@ mod single;
 pub use ff_node::Records;
 pub use network::run_one;
 pub use outcome::Outcome;
-
-#[cfg(test)]
-mod tests;

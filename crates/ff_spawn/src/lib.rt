@@ -17,6 +17,3 @@ pub use running_jobs::RunningJobs;
 pub use spawner::{Counting, Refusals, Spawner};
 pub use started::Started;
 pub use threads::Threads;
-
-#[cfg(test)]
-mod tests;

@@ -2,8 +2,8 @@
 ghost use Rattle.std.specs.Prelude.{◌≡◌, true};
 ghost use Rattle.ff_spawn.specs.Counts.{more};
 
-use crate::{Denial, Job, RefuseAt, RunningJobs, Spawner, StartFault, Threads};
 use ff_rec::NoMemory;
+use ff_spawn::{Denial, Job, RefuseAt, RunningJobs, Spawner, StartFault, Threads};
 use std::alloc::Global;
 use std::sync::{Arc, Barrier, Wait};
 use std::test::Fail;

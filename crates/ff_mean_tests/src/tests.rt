@@ -1,7 +1,7 @@
 // What no clause says: that memory is there, so that each call does its work.
 mod turning;
 
-use crate::{Outcome, run_one};
+use ff_mean::{Outcome, run_one};
 use ff_net::{Checked, Net, Route, Test, Version, check};
 use ff_node::{Cmp, Records};
 use ff_rec::{Field, Record};
