@@ -36,7 +36,8 @@ abbrev pub is_prompt : Delivery → Bool
 is_prompt Prompt = true
 is_prompt Gathered = false
 
--- whether a unit does so: the workers of a wrap wait for their master; all other units hand over what waits once they run dry, deals in turn and by key behind some naps
+-- whether a unit does so: the workers of a wrap wait for their master; all other units hand over what waits once they run dry,
+-- deals in turn and by key behind some naps
 abbrev pub hurries : Delivery → UnitKind → Bool
 hurries delivery Stage = is_prompt delivery
 hurries delivery Master = true

@@ -7,7 +7,7 @@ abbrev pub untold_of : Ringer → ℕ
 untold_of r = r.untold
 
 -- after how many bundles a reader is told at the latest, in a ring of so many slots: a quarter of them, and one at least, is still free
--- then, so that the writer goes on while the reader wakes
+-- then, so that the writer goes on while the reader wakes. In a ring of one slot it is told of each
 abbrev pub told_of_bundles : ℕ → ℕ
 told_of_bundles slots = slots - max 1 (slots / 4)
 

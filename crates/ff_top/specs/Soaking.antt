@@ -49,10 +49,10 @@ pub record RanThreads (n w started started_now handled handled_now : ℕ) : Type
   pub worked : RoseBy (units (soak_net (workers_within w)) + records_within n) handled handled_now
 
 -- what the output took of these bytes where a soak ended so: only a write that failed may leave a part of them
-abbrev pub LeavesPart : SoakCause → Option (List ℕ) → Option (List ℕ) → List ℕ → Type 0
-LeavesPart Refused before now bytes = now ≡ before
-LeavesPart Write before now bytes = AppendsPrefix before now bytes
-LeavesPart NoMemory before now bytes = now ≡ before
+abbrev pub LeavesSoaked : SoakCause → Option (List ℕ) → Option (List ℕ) → List ℕ → Type 0
+LeavesSoaked Refused before now bytes = now ≡ before
+LeavesSoaked Write before now bytes = AppendsPrefix before now bytes
+LeavesSoaked NoMemory before now bytes = now ≡ before
 
 -- the threads had done their work where the summary was written, or its write failed
 abbrev pub MayHaveRanThreads : ℕ → ℕ → ℕ → ℕ → ℕ → ℕ → Result ℕ SoakCause → Type 0
@@ -65,7 +65,7 @@ MayHaveRanThreads n w started started_now handled handled_now (Err NoMemory) = U
 pub record Soaks (n : ℕ) (before now : Option (List ℕ)) (faults faults_now refused refused_now : ℕ) (answer : Result ℕ SoakCause) : Type 0 where
   pub none : IfOk answer (λ k. k ≡ 0)
   pub all : OnOk answer (Appends before now (soaked n))
-  pub part : IfErr answer (λ cause. LeavesPart cause before now (soaked n))
+  pub part : IfErr answer (λ cause. LeavesSoaked cause before now (soaked n))
   pub counts : faults_now ≡ count_by soak_output faults answer
   pub starts : refused_now ≡ count_by soak_refused refused answer
 
@@ -74,5 +74,5 @@ abbrev pub Soaked : ℕ → ℕ → Outside → Outside → Result ℕ SoakCause
 Soaked n w before now (Ok k) =
     (k ≡ 0) × Appends before.taken now.taken (soaked n) × RanThreads n w before.starts now.starts before.worked now.worked × ReadsNothing before now
 Soaked n w before now (Err cause) =
-    LeavesPart cause before.taken now.taken (soaked n)
+    LeavesSoaked cause before.taken now.taken (soaked n)
     × MayHaveRanThreads n w before.starts now.starts before.worked now.worked (Err cause) × ReadsNothing before now
