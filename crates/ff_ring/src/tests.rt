@@ -168,9 +168,9 @@ fn settling_tells_what_is_left(rt: HostRuntime) -> Result<(), Fail> {
     Ok(())
 }
 
-// Seven pauses with spins, and one more try. Then it naps, and where that was the last nap, is told to hand over.
+// Five pauses with spins, and one more try. Then it naps, and where that was the last nap, is told to hand over.
 fn check_nap<R: Abort + Wait>(rt: &R, bell: &Bell, pause: &mut Pause, last: bool) {
-    for _ in 0..8 {
+    for _ in 0..6 {
         assert!(rt; !pause.rest(rt));
     }
     assert_eq!(rt; pause.rest(rt), last);
