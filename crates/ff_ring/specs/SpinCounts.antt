@@ -5,5 +5,5 @@ use Rattle.ff_ring.specs.declared.spins.Spins.TheVariants.{Few, Many}
 
 -- the most spins of a thread that spins so
 abbrev pub most_spins : Spins → ℕ
-most_spins Few = 16
+most_spins Few = 64
 most_spins Many = 1024

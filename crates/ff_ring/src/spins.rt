@@ -5,7 +5,7 @@ ghost use Rattle.ff_ring.specs.SpinCounts.{most_spins};
 /// How long a thread spins before it lies down.
 #[derive(Clone, Copy, Debug, PartialEq, Eq, Hash)]
 pub enum Spins {
-    /// At most 16 between two tries: many messages come at once, and more spins would take the processor from those who send them.
+    /// At most 64 between two tries: many messages come at once, and more spins would take the processor from those who send them.
     Few,
     /// At most 1024: the thread waits for the answer to what it has just handed over, which comes sooner than a sleep ends.
     Many,
@@ -17,7 +17,7 @@ impl Spins {
         ensures { result ≡ most_spins self }
     {
         match self {
-            Spins::Few => 16,
+            Spins::Few => 64,
             Spins::Many => 1024,
         }
     }

@@ -168,9 +168,9 @@ fn settling_tells_what_is_left(rt: HostRuntime) -> Result<(), Fail> {
     Ok(())
 }
 
-// Five pauses with spins, and one more try. Then it naps, and where that was the last nap, is told to hand over.
+// Seven pauses with spins, and one more try. Then it naps, and where that was the last nap, is told to hand over.
 fn check_nap<R: Abort + Wait>(rt: &R, bell: &Bell, pause: &mut Pause, last: bool) {
-    for _ in 0..6 {
+    for _ in 0..8 {
         assert!(rt; !pause.rest(rt));
     }
     assert_eq!(rt; pause.rest(rt), last);
@@ -199,11 +199,11 @@ fn a_pause_naps_at_most_four_times(rt: HostRuntime) -> Result<(), Fail> {
     Ok(())
 }
 
-// Five or eleven pauses with spins, one more try, and then a park, which ends by itself. Nobody sees the thread rest while
+// Seven or eleven pauses with spins, one more try, and then a park, which ends by itself. Nobody sees the thread rest while
 // it isn't parked.
 #[test]
 fn pauses_spin_and_park(rt: HostRuntime) -> Result<(), Fail> {
-    for (spins, count) in [(Spins::Few, 5), (Spins::Many, 11)] {
+    for (spins, count) in [(Spins::Few, 7), (Spins::Many, 11)] {
         let bell = Arc::new(rt.alloc(), Bell::new())?;
         let mut pause = Pause::new(Arc::try_clone(&bell)?, spins, false);
         for _ in 0..2 {

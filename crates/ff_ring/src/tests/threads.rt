@@ -204,8 +204,8 @@ fn a_rest_is_seen(rt: HostRuntime) -> Result<(), Fail> {
 fn naps(rt: &impl Wait, mut out: RingOut<u64>, mut pause: Pause) -> bool
     requires { IsOpen (put_of out) }
 {
-    for k in 0..21 {
-        if k % 7 == 0 {
+    for k in 0..27 {
+        if k % 9 == 0 {
             pause.reset();
         }
         let _ = pause.rest(rt);
