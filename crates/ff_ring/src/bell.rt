@@ -1,6 +1,6 @@
 // How a thread is woken, and how another one sees that it rests.
 use std::sync::Wait;
-use std::sync::atomic::{AtomicU64, Ordering};
+use std::sync::atomic::{AtomicBool, AtomicU64, Ordering};
 use std::thread::Parker;
 use std::time::Duration;
 
@@ -25,6 +25,8 @@ const NOTED: u64 = 3;
 pub struct Bell {
     parker: Parker,
     state: AtomicU64,
+    // Whether room that is made may be what the thread waits for.
+    wants_room: AtomicBool,
 }
 
 impl Bell {
@@ -33,6 +35,7 @@ impl Bell {
         Bell {
             parker: Parker::new(),
             state: AtomicU64::new(WORKS),
+            wants_room: AtomicBool::new(true),
         }
     }
 
@@ -46,6 +49,23 @@ impl Bell {
         // In this order: a thread whose rest is undone is also woken, to lie down again.
         self.state.store(WORKS, Ordering::SeqCst);
         self.parker.unpark();
+    }
+
+    /// Wakes the thread, where room may be what it lay down for. Room was made in a ring that it writes.
+    pub(crate) fn ring_for_room(&self) {
+        if self.wants_room() {
+            self.ring();
+        }
+    }
+
+    /// Whether room may be what the thread waits for: not where it has handed over all since it lay down.
+    pub(crate) fn wants_room(&self) -> bool {
+        self.wants_room.load(Ordering::SeqCst)
+    }
+
+    /// The thread has handed over all since it lay down, and waits for something to take.
+    pub(crate) fn wants_no_room(&self) {
+        self.wants_room.store(false, Ordering::SeqCst);
     }
 
     /// Whether the thread rests, which is noted.
@@ -64,6 +84,8 @@ impl Bell {
 
     /// The thread is about to try once more.
     pub(crate) fn tries(&self) {
+        // In this order: who sees that the thread lay down sees also that it may want room.
+        self.wants_room.store(true, Ordering::SeqCst);
         self.state.store(TRIES, Ordering::SeqCst);
     }
 

@@ -8,7 +8,7 @@ ghost use Rattle.ff_ring.specs.Sizes.{bundle_size, bundle_count};
 use crate::bundle::{Bundle, Emptied, Filled};
 use crate::inlet::Inlet;
 use crate::outlet::Outlet;
-use crate::ringer::Ringer;
+use crate::ringer::{News, Ringer};
 use crate::{Bell, RingIn, RingOut};
 use ff_rec::NoMemory;
 use rtrb::{Consumer, Producer, RingBuffer};
@@ -43,12 +43,12 @@ pub fn ring<T: Drop>(
     let outlet = Outlet {
         end,
         spares,
-        reader: Ringer::new(reader),
+        reader: Ringer::new(reader, News::Any),
     };
     let inlet = Inlet {
         end: taking,
         spares: giving,
-        writer: Ringer::new(writer),
+        writer: Ringer::new(writer, if count == 1 { News::Any } else { News::Room }),
     };
     let out = RingOut::new(outlet, VecDeque::with_capacity(alloc, size)?);
     let inn = RingIn::new(inlet, VecDeque::with_capacity(alloc, size)?);

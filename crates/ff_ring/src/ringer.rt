@@ -6,21 +6,36 @@ use crate::Bell;
 use std::alloc::Global;
 use std::sync::Arc;
 
+/// What a thread is told of.
+#[derive(Clone, Copy)]
+pub(crate) enum News {
+    /// There is something to take; or there is room in a ring of one slot, which its end can't be seen to want, since it gathers
+    /// nothing.
+    Any,
+    /// There is room: nothing to a thread that has handed over all.
+    Room,
+}
+
 /// Rings the bell of the thread at the other end: for each hand-over, or for several at once. To wake a thread takes
 /// longer than to fill a bundle, and one that is woken for each bundle has slept again before the next one.
 #[derive(Drop)]
 pub(crate) struct Ringer {
     bell: Arc<Bell, Global>,
+    news: News,
     // How often something was handed over since the bell rang.
     untold: usize,
 }
 
 impl Ringer {
     /// The way to a bell of which nothing was handed over yet.
-    pub(crate) fn new(bell: Arc<Bell, Global>) -> Ringer
+    pub(crate) fn new(bell: Arc<Bell, Global>, news: News) -> Ringer
         ensures { untold_of result ≡ 0 }
     {
-        Ringer { bell, untold: 0 }
+        Ringer {
+            bell,
+            news,
+            untold: 0,
+        }
     }
 
     /// Something was handed over. The thread is told at once where that is asked for, and else once it was done so often.
@@ -46,7 +61,10 @@ impl Ringer {
     fn ring(&mut self)
         ensures { untold_of self.new ≡ 0 }
     {
-        self.bell.ring();
+        match self.news {
+            News::Any => self.bell.ring(),
+            News::Room => self.bell.ring_for_room(),
+        }
         self.untold = 0;
     }
 }

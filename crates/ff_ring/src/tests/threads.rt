@@ -40,7 +40,10 @@ fn writes(rt: &impl Wait, mut out: RingOut<u64>, count: u64, bell: &Bell) -> Rin
             next += 1;
             tried = false;
         } else {
-            out.flush();
+            let all = out.flush();
+            if tried && all {
+                bell.wants_no_room();
+            }
             tried = sleeps(rt, bell, tried);
         }
     }
