@@ -62,11 +62,7 @@ fn wait<P: Ports<Record>, R: Wait>(
     ensures left { IfSome result (λ all. IsTrue all ↔ (P.waiting ports.new ≡ 0)) }
 {
     if (moved && !pause.naps()) || pause.rest(rt) {
-        let all = ports.flush();
-        if all {
-            pause.wants_no_room();
-        }
-        return Some(all);
+        return Some(ports.flush());
     }
     None
 }

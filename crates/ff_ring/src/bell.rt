@@ -25,7 +25,7 @@ const NOTED: u64 = 3;
 pub struct Bell {
     parker: Parker,
     state: AtomicU64,
-    // Whether room that is made may be what the thread waits for.
+    // Whether the thread found no room since it lay down.
     wants_room: AtomicBool,
 }
 
@@ -35,7 +35,7 @@ impl Bell {
         Bell {
             parker: Parker::new(),
             state: AtomicU64::new(WORKS),
-            wants_room: AtomicBool::new(true),
+            wants_room: AtomicBool::new(false),
         }
     }
 
@@ -51,21 +51,16 @@ impl Bell {
         self.parker.unpark();
     }
 
-    /// Wakes the thread, where room may be what it lay down for. Room was made in a ring that it writes.
+    /// Wakes the thread, where it found no room since it lay down. Room was made in a ring that it writes.
     pub(crate) fn ring_for_room(&self) {
-        if self.wants_room() {
+        if self.wants_room.load(Ordering::SeqCst) {
             self.ring();
         }
     }
 
-    /// Whether room may be what the thread waits for: not where it has handed over all since it lay down.
-    pub(crate) fn wants_room(&self) -> bool {
-        self.wants_room.load(Ordering::SeqCst)
-    }
-
-    /// The thread has handed over all since it lay down, and waits for something to take.
-    pub(crate) fn wants_no_room(&self) {
-        self.wants_room.store(false, Ordering::SeqCst);
+    /// The thread found no room. It is to look once more behind this, since who made some may not have seen it.
+    pub(crate) fn wants_room(&self) {
+        self.wants_room.store(true, Ordering::SeqCst);
     }
 
     /// Whether the thread rests, which is noted.
@@ -84,8 +79,7 @@ impl Bell {
 
     /// The thread is about to try once more.
     pub(crate) fn tries(&self) {
-        // In this order: who sees that the thread lay down sees also that it may want room.
-        self.wants_room.store(true, Ordering::SeqCst);
+        self.wants_room.store(false, Ordering::SeqCst);
         self.state.store(TRIES, Ordering::SeqCst);
     }
 

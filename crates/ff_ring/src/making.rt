@@ -43,12 +43,13 @@ pub fn ring<T: Drop>(
     let outlet = Outlet {
         end,
         spares,
-        reader: Ringer::new(reader, News::Any),
+        reader: Ringer::new(reader, News::Bundles),
+        writer: Arc::try_clone(&writer)?,
     };
     let inlet = Inlet {
         end: taking,
         spares: giving,
-        writer: Ringer::new(writer, if count == 1 { News::Any } else { News::Room }),
+        writer: Ringer::new(writer, News::Room),
     };
     let out = RingOut::new(outlet, VecDeque::with_capacity(alloc, size)?);
     let inn = RingIn::new(inlet, VecDeque::with_capacity(alloc, size)?);

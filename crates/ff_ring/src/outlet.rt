@@ -2,18 +2,21 @@
 ghost use Rattle.std.specs.Prelude.{◌≡◌, ◌<◌, IsTrue, IsFalse, ◌↔◌};
 ghost use Rattle.std.proofs.Common.{deque_len, deque_capacity};
 
+use crate::Bell;
 use crate::bundle::{Bundle, Emptied, Filled};
 use crate::ringer::Ringer;
 use rtrb::{Consumer, Producer};
 use std::alloc::Global;
 use std::mem;
+use std::sync::Arc;
 
-/// The writer's ends of both ways, and the way to the bell of the reader's thread.
+/// The writer's ends of both ways, the way to the bell of the reader's thread, and the bell of the writer's own.
 #[derive(Drop)]
 pub(crate) struct Outlet<T> {
     pub(crate) end: Producer<Bundle<T>, Global, Filled>,
     pub(crate) spares: Consumer<Bundle<T>, Global, Emptied>,
     pub(crate) reader: Ringer,
+    pub(crate) writer: Arc<Bell, Global>,
 }
 
 impl<T> Outlet<T> {
@@ -32,7 +35,7 @@ impl<T> Outlet<T> {
             (self.new.reader ≡ self.old.reader) }
         ensures roomy { 0 < deque_capacity bundle.new }
     {
-        if self.end.is_full() {
+        if !self.has_room() {
             return false;
         }
         let Ok(spare) = self.spares.pop() else {
@@ -47,8 +50,21 @@ impl<T> Outlet<T> {
         true
     }
 
-    /// Whether a bundle could be handed over.
+    /// Whether a bundle could be handed over. Where none could, the thread says so at its bell and looks once more: whoever made room
+    /// before that didn't see that it was wanted.
     pub(crate) fn has_room(&mut self) -> bool
+        ensures looked { Looks self.old self.new }
+        ensures reader { self.new.reader ≡ self.old.reader }
+        ensures value { IsTrue result ↔ (0 < hands_of self.new) }
+    {
+        if self.sees_room() {
+            return true;
+        }
+        self.writer.wants_room();
+        self.sees_room()
+    }
+
+    fn sees_room(&mut self) -> bool
         ensures looked { Looks self.old self.new }
         ensures reader { self.new.reader ≡ self.old.reader }
         ensures value { IsTrue result ↔ (0 < hands_of self.new) }

@@ -84,14 +84,6 @@ impl Pause {
         self.naps
     }
 
-    /// All was handed over, as `rest` asked for: it isn't room that the thread waits for, and it isn't woken for that until it lies
-    /// down again. A reader that empties a ring would wake the writer that sleeps for want of something to take.
-    pub fn wants_no_room(&self) {
-        if self.lies {
-            self.bell.wants_no_room();
-        }
-    }
-
     /// Something was done: the next pause is short again. One that has handed over what it had may nap again.
     pub fn reset(&mut self)
         ensures fresh { IsFresh self.new }

@@ -9,10 +9,9 @@ use std::sync::Arc;
 /// What a thread is told of.
 #[derive(Clone, Copy)]
 pub(crate) enum News {
-    /// There is something to take; or there is room in a ring of one slot, which its end can't be seen to want, since it gathers
-    /// nothing.
-    Any,
-    /// There is room: nothing to a thread that has handed over all.
+    /// There is something to take.
+    Bundles,
+    /// There is room, which is told only to a thread that found none.
     Room,
 }
 
@@ -62,7 +61,7 @@ impl Ringer {
         ensures { untold_of self.new ≡ 0 }
     {
         match self.news {
-            News::Any => self.bell.ring(),
+            News::Bundles => self.bell.ring(),
             News::Room => self.bell.ring_for_room(),
         }
         self.untold = 0;

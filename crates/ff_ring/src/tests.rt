@@ -200,7 +200,7 @@ fn a_pause_naps_at_most_four_times(rt: HostRuntime) -> Result<(), Fail> {
 }
 
 // Seven or eleven pauses with spins, one more try, and then a park, which ends by itself. Nobody sees the thread rest while
-// it isn't parked. Room may be what it waits for, but where it says otherwise behind lying down, until it does so again.
+// it isn't parked.
 #[test]
 fn pauses_spin_and_park(rt: HostRuntime) -> Result<(), Fail> {
     for (spins, count) in [(Spins::Few, 7), (Spins::Many, 11)] {
@@ -212,12 +212,7 @@ fn pauses_spin_and_park(rt: HostRuntime) -> Result<(), Fail> {
             }
             for _ in 0..6 {
                 // It lies down, and then it parks; and the other way to pause does so, too.
-                pause.wants_no_room();
-                assert!(rt; bell.wants_room());
                 assert!(rt; pause.rest(&rt));
-                assert!(rt; bell.wants_room());
-                pause.wants_no_room();
-                assert!(rt; !bell.wants_room());
                 assert!(rt; !bell.notes_rest());
                 assert!(rt; !pause.rest(&rt));
                 assert!(rt; !bell.notes_rest());

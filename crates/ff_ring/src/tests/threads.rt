@@ -40,10 +40,7 @@ fn writes(rt: &impl Wait, mut out: RingOut<u64>, count: u64, bell: &Bell) -> Rin
             next += 1;
             tried = false;
         } else {
-            let all = out.flush();
-            if tried && all {
-                bell.wants_no_room();
-            }
+            out.flush();
             tried = sleeps(rt, bell, tried);
         }
     }
