@@ -13,8 +13,7 @@ const NAP: u64 = 200;
 // How often it naps before it hands over what it has gathered.
 const MOST_NAPS: u32 = 4;
 
-// How long a thread is parked at most, in milliseconds. Bells wake it; the time is a safety net, and long, since to set the
-// clock for a near one costs more than the sleep.
+// How long a thread is parked at most, in milliseconds. Bells wake it; the time is a safety net.
 const PARK: u64 = 50;
 
 // How long it dozes at first, in microseconds, and at most. What it waits for may ring no bell.
