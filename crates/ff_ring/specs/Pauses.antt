@@ -24,13 +24,17 @@ naps_left_of p = p.naps_left
 abbrev pub has_napped : Pause → Bool
 has_napped p = p.napped
 
+-- how long the next park may last, in milliseconds
+abbrev pub millis_of : Pause → ℕ
+millis_of p = p.millis
+
 -- how long the next doze may last, in microseconds
 abbrev pub micros_of : Pause → ℕ
 micros_of p = p.micros
 
 -- nothing was waited for yet
 abbrev pub IsFresh : Pause → Type 0
-IsFresh p = (spins_of p ≡ 1) × (lies_down p ≡ false) × (has_napped p ≡ false) × (micros_of p ≡ 100)
+IsFresh p = (spins_of p ≡ 1) × (lies_down p ≡ false) × (has_napped p ≡ false) × (millis_of p ≡ 2) × (micros_of p ≡ 100)
 
 -- whether the next pause is spins
 abbrev pub spins_next : Pause → Bool
@@ -56,9 +60,12 @@ lies_behind p = if spins_next p then lies_down p else not (lies_down p)
 abbrev pub naps_renewed : Pause → ℕ
 naps_renewed p = if naps_of p then (if naps_left_of p == 0 then 4 else naps_left_of p) else naps_left_of p
 
--- whether it naps in the next pause
+-- whether it naps in the next pause, or parks
 abbrev pub naps_next : Pause → Bool
 naps_next p = if sleeps_next p then nat_lt 0 (naps_left_of p) else false
+
+abbrev pub parks_next : Pause → Bool
+parks_next p = if sleeps_next p then naps_left_of p == 0 else false
 
 -- whether what waits is to be handed over behind the next pause: it lies down and naps no more before it parks, or it naps for the last time
 abbrev pub hands_next : Pause → Bool

@@ -13,8 +13,10 @@ const NAP: u64 = 200;
 // How often it naps before it hands over what it has gathered.
 const MOST_NAPS: u32 = 4;
 
-// How long a thread is parked at most, in milliseconds. Bells wake it; the time is a safety net.
-const PARK: u64 = 50;
+// How long a thread is parked at first, in milliseconds, and at most. Bells wake it; the time is a safety net.
+const FIRST_PARK: u64 = 2;
+
+const LONGEST_PARK: u64 = 50;
 
 // How long it dozes at first, in microseconds, and at most. What it waits for may ring no bell.
 const FIRST_DOZE: u64 = 100;
@@ -22,7 +24,7 @@ const FIRST_DOZE: u64 = 100;
 const LONGEST_DOZE: u64 = 2000;
 
 /// The pauses of a thread between its tries, while it finds nothing to do: 1, 2, 4, .. spins, which cost no more
-/// than a message's way, and then parks of 50 milliseconds, which the other ends of its rings cut short. Before
+/// than a message's way, and then parks of 2, 4, .. 50 milliseconds, which the other ends of its rings cut short. Before
 /// each park it lies down and tries once more, so that no bell is missed. One that naps sleeps for a moment in the place of a park,
 /// a few times between two handings over, and keeps meanwhile what it has gathered. It never yields its time slice, since a busy
 /// machine gives the whole slice away.
@@ -39,18 +41,21 @@ pub struct Pause {
     naps: bool,
     naps_left: u32,
     napped: bool,
+    // How long the next park may last, in milliseconds.
+    millis: u64,
     // How long the next doze may last, in microseconds.
     micros: u64,
     ghost few: { most ≤ 1024 },
     ghost few_spins: { spins ≤ 2048 },
-    ghost short: { micros ≤ 2000 },
+    ghost short: { millis ≤ 50 },
+    ghost shorter: { micros ≤ 2000 },
 }
 
 impl Pause {
     ghost use Rattle.std.specs.Prelude.{◌≡◌, ◌*◌, ◌-◌, ◌<◌, min, not, true, false, if◌then◌else◌};
     ghost use Rattle.ff_ring.specs.SpinCounts.{most_spins};
-    ghost use Rattle.ff_ring.specs.Pauses.{IsFresh, most_of, spins_of, lies_down, naps_of, naps_left_of, has_napped, micros_of};
-    ghost use Rattle.ff_ring.specs.Pauses.{spins_next, hands_next, sleeps_next, spins_behind, lies_behind, naps_behind, napped_behind, naps_renewed};
+    ghost use Rattle.ff_ring.specs.Pauses.{IsFresh, most_of, spins_of, lies_down, naps_of, naps_left_of, has_napped, millis_of, micros_of};
+    ghost use Rattle.ff_ring.specs.Pauses.{spins_next, hands_next, parks_next, sleeps_next, spins_behind, lies_behind, naps_behind, napped_behind, naps_renewed};
 
     /// The pauses of the thread with this bell. The other ends of its rings are given it too.
     pub fn new(bell: Arc<Bell, Global>, spins: Spins, naps: bool) -> Pause
@@ -67,6 +72,7 @@ impl Pause {
             naps,
             naps_left: 0,
             napped: false,
+            millis: FIRST_PARK,
             micros: FIRST_DOZE,
         }
     }
@@ -94,6 +100,7 @@ impl Pause {
         if self.naps && self.naps_left == 0 {
             self.naps_left = MOST_NAPS;
         }
+        self.millis = FIRST_PARK;
         self.micros = FIRST_DOZE;
     }
 
@@ -108,6 +115,8 @@ impl Pause {
         ensures naps { naps_of self.new ≡ naps_of self.old }
         ensures left { naps_left_of self.new ≡ naps_behind self.old }
         ensures napped { has_napped self.new ≡ napped_behind self.old }
+        ensures millis { millis_of self.new
+            ≡ (if parks_next self.old then min 50 (2 * millis_of self.old) else millis_of self.old) }
         ensures micros { micros_of self.new ≡ micros_of self.old }
     {
         if self.spin() {
@@ -132,6 +141,7 @@ impl Pause {
         ensures most { most_of self.new ≡ most_of self.old }
         ensures spins { spins_of self.new ≡ spins_behind self.old }
         ensures lies { lies_down self.new ≡ lies_behind self.old }
+        ensures millis { millis_of self.new ≡ millis_of self.old }
         ensures micros { micros_of self.new
             ≡ (if sleeps_next self.old then min 2000 (2 * micros_of self.old) else micros_of self.old) }
         ensures naps { naps_of self.new ≡ naps_of self.old }
@@ -150,6 +160,7 @@ impl Pause {
         ensures most { most_of self.new ≡ most_of self.old }
         ensures spins { spins_of self.new ≡ spins_behind self.old }
         ensures lies { lies_down self.new ≡ lies_down self.old }
+        ensures millis { millis_of self.new ≡ millis_of self.old }
         ensures micros { micros_of self.new ≡ micros_of self.old }
         ensures naps { naps_of self.new ≡ naps_of self.old }
         ensures left { naps_left_of self.new ≡ naps_left_of self.old }
@@ -171,6 +182,7 @@ impl Pause {
         ensures most { most_of self.new ≡ most_of self.old }
         ensures spins { spins_of self.new ≡ spins_of self.old }
         ensures lies { lies_down self.new ≡ true }
+        ensures millis { millis_of self.new ≡ millis_of self.old }
         ensures micros { micros_of self.new ≡ micros_of self.old }
         ensures naps { naps_of self.new ≡ naps_of self.old }
         ensures left { naps_left_of self.new ≡ naps_left_of self.old }
@@ -184,18 +196,20 @@ impl Pause {
         true
     }
 
-    // Parks until the bell rings or the time is over.
+    // Parks until the bell rings or the time is over. The next park may last longer.
     fn park<R: Wait>(&mut self, rt: &R)
         ensures most { most_of self.new ≡ most_of self.old }
         ensures spins { spins_of self.new ≡ spins_of self.old }
         ensures lies { lies_down self.new ≡ false }
+        ensures millis { millis_of self.new ≡ min 50 (2 * millis_of self.old) }
         ensures micros { micros_of self.new ≡ micros_of self.old }
         ensures naps { naps_of self.new ≡ naps_of self.old }
         ensures left { naps_left_of self.new ≡ naps_left_of self.old }
         ensures napped { has_napped self.new ≡ has_napped self.old }
     {
-        self.bell.sleep(rt, Duration::from_millis(PARK));
+        self.bell.sleep(rt, Duration::from_millis(self.millis));
         self.lies = false;
+        self.millis = (2 * self.millis).min(LONGEST_PARK);
     }
 
     // Sleeps for a moment, which a bell cuts short. It doesn't rest meanwhile: it may have something to hand over.
@@ -207,6 +221,7 @@ impl Pause {
         ensures naps { naps_of self.new ≡ naps_of self.old }
         ensures left { naps_left_of self.new ≡ naps_left_of self.old - 1 }
         ensures napped { has_napped self.new ≡ true }
+        ensures millis { millis_of self.new ≡ millis_of self.old }
         ensures micros { micros_of self.new ≡ micros_of self.old }
     {
         self.bell.nap(rt, Duration::from_micros(NAP));
@@ -220,6 +235,7 @@ impl Pause {
         ensures most { most_of self.new ≡ most_of self.old }
         ensures spins { spins_of self.new ≡ spins_of self.old }
         ensures lies { lies_down self.new ≡ false }
+        ensures millis { millis_of self.new ≡ millis_of self.old }
         ensures micros { micros_of self.new ≡ min 2000 (2 * micros_of self.old) }
         ensures naps { naps_of self.new ≡ naps_of self.old }
         ensures left { naps_left_of self.new ≡ naps_left_of self.old }

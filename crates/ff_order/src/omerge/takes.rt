@@ -10,6 +10,7 @@ use ff_unit::Mode;
 
 impl OMerge {
     /// A message of in `k`, while nothing is held.
+    #[inline(always)]
     pub(super) fn receive(&mut self, k: usize, m: Msg<Record>)
         requires held { self.old.held ≡ [] }
         requires within { k < length self.old.live }
@@ -60,6 +61,7 @@ impl OMerge {
     }
 
     // A message that isn't the last of its in. Behind the last group, or behind a cut, it is dropped.
+    #[inline(always)]
     fn receive_more(&mut self, m: Msg<Record>)
         requires { self.old.held ≡ [] }
         ensures { self.new ≡ omerge_gets self.old.mode self.old m }
@@ -72,6 +74,7 @@ impl OMerge {
     }
 
     // A message of the group that is due.
+    #[inline(always)]
     fn receive_group(&mut self, m: Msg<Record>)
         requires held { self.old.held ≡ [] }
         requires within { self.old.due < self.old.places }
