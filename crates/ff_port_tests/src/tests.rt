@@ -3,7 +3,7 @@ ghost use Rattle.std.specs.Prelude.{◌≡◌, OnOk};
 ghost use Rattle.ff_rec.specs.Streams.{IsOpen};
 ghost use Rattle.ff_port.specs.Queues.{put_of};
 
-use crate::{Inbox, Msg, Outbox, OwnPorts, PlainQueue, Ports, Put};
+use ff_port::{Inbox, Msg, Outbox, OwnPorts, PlainQueue, Ports, Put};
 use ff_rec::NoMemory;
 use std::test::Fail;
 
