@@ -3,9 +3,9 @@ ghost use Rattle.std.specs.Prelude.{◌≡◌, ◌≤◌, [], IfOk};
 ghost use Rattle.ff_rec.specs.Streams.{IsOpen};
 ghost use Rattle.ff_ring.specs.Ends.{put_of, written_ring, read_ring};
 
-use crate::{Bell, Pause, RingIn, RingOut, Spins, ring, settle};
 use ff_port::{Inbox, Outbox, Put};
 use ff_rec::{Msg, NoMemory};
+use ff_ring::{Bell, Pause, RingIn, RingOut, Spins, ring, settle};
 use std::alloc::Global;
 use std::process::Abort;
 use std::sync::{Arc, Wait};

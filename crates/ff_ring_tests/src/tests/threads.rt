@@ -5,9 +5,9 @@ ghost use Rattle.ff_rec.specs.Streams.{IsOpen};
 ghost use Rattle.ff_ring.specs.Ends.{put_of, written_ring, read_ring};
 
 use super::puts;
-use crate::{Bell, Pause, RingIn, RingOut, Spins, ring, settle};
 use ff_port::{Inbox, Outbox, Put};
 use ff_rec::{Msg, NoMemory};
+use ff_ring::{Bell, Pause, RingIn, RingOut, Spins, ring, settle};
 use std::alloc::Global;
 use std::sync::{Arc, Wait};
 use std::test::Fail;
