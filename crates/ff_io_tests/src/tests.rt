@@ -1,4 +1,8 @@
-use crate::{
+mod asked;
+mod host_files;
+mod mem_files;
+
+use ff_io::{
     Failed, FileFault, Files, MemSink, MemSource, ReaderSource, ShortSink, Sink, Source,
     StderrSink, StdinSource, StdoutSink, WriterSink, write_all,
 };

@@ -1,7 +1,7 @@
-use super::storing::SUFFIXES;
-use super::*;
-use crate::tests::{check_load, check_refusal, check_store};
-use std::io::repeat;
+use super::asked::{Asked, Noting};
+use super::{check_load, check_refusal, check_store};
+use ff_io::{FileFault, Files, HostFiles, StoreFault};
+use std::fs;
 use std::os::unix::fs::symlink;
 use std::test::Fail;
 
@@ -25,7 +25,7 @@ fn file_is_stored_and_loaded(rt: HostRuntime) -> Result<(), Fail> {
     check_load(&rt, &mut files, NAME, usize::MAX, b"second");
     fs::remove_file(&rt, NAME)?;
     check_refusal(&rt, &mut files, NAME, 9, FileFault::Failed);
-    for suffix in SUFFIXES {
+    for suffix in [".new", ".new2", ".new3", ".new4"] {
         assert!(rt; !stands_beside(&rt, suffix)?);
     }
     Ok(())
@@ -57,32 +57,34 @@ fn link_stays_a_link(rt: HostRuntime) -> Result<(), Fail> {
 
 #[test]
 fn devices_are_written_and_never_replaced(rt: HostRuntime) {
-    let mut files = HostFiles::new(rt.alloc(), rt, rt.stderr());
-    for (name, way, answer) in [
-        ("/dev/null", Way::Append, Ok(())),
-        ("/dev/full", Way::Append, Err(StoreFault::Failed)),
-        ("/dev/stderr", Way::StandardError, Ok(())),
-        ("/proc/ff_io_none", Way::Append, Err(StoreFault::Failed)),
-        ("ff_io_no_folder/a", Way::Replace, Err(StoreFault::Failed)),
+    for (name, asked, answer) in [
+        ("/dev/null", Asked::Behind, Ok(())),
+        ("/dev/full", Asked::Behind, Err(StoreFault::Failed)),
+        ("/dev/stderr", Asked::Never, Ok(())),
+        ("/proc/ff_io_none", Asked::Behind, Err(StoreFault::Failed)),
+        ("ff_io_no_folder/a", Asked::New, Err(StoreFault::Failed)),
     ] {
-        assert_eq!(rt; way_of(&rt, name), way, "{name}");
+        let noting = Noting::new(rt);
+        let mut files = HostFiles::new(rt.alloc(), &noting, rt.stderr());
         assert_eq!(rt; files.store(name, b"1\n"), answer, "{name}");
+        assert_eq!(rt; noting.first(), asked, "{name}");
     }
 }
 
 #[test]
 fn what_is_appended_stands_behind(rt: HostRuntime) -> Result<(), Fail> {
-    let name = "ff_io_append_test";
-    assert_eq!(rt; append(&rt, name, b"a\n"), Ok(()));
-    assert_eq!(rt; append(&rt, name, b"b\n"), Ok(()));
     let mut files = HostFiles::new(rt.alloc(), rt, rt.stderr());
-    check_load(&rt, &mut files, name, 9, b"a\nb\n");
-    fs::remove_file(&rt, name)?;
+    // The folder of processes tells which folder this one is in.
+    for line in [b"a\n", b"b\n"] {
+        check_store(&rt, &mut files, "/proc/self/cwd/ff_io_append_test", line);
+    }
+    check_load(&rt, &mut files, "ff_io_append_test", 9, b"a\nb\n");
+    fs::remove_file(&rt, "ff_io_append_test")?;
     Ok(())
 }
 
 #[test]
 fn endless_file_is_too_long(rt: HostRuntime) {
-    let answer = read_within(rt.alloc(), repeat(7), 1000);
-    assert_eq!(rt; answer.err(), Some(FileFault::TooLong));
+    let mut files = HostFiles::new(rt.alloc(), rt, rt.stderr());
+    check_refusal(&rt, &mut files, "/dev/zero", 1000, FileFault::TooLong);
 }

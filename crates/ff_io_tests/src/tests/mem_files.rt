@@ -1,6 +1,6 @@
-use super::*;
-use crate::tests::{check_load, check_refusal, check_store};
-use std::alloc::AllocError;
+use super::{check_load, check_refusal, check_store};
+use ff_io::{FileFault, Files, MemFiles, StoreFault};
+use std::alloc::{AllocError, Global};
 use std::process::Abort;
 use std::test::Fail;
 
