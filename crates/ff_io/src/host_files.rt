@@ -2,8 +2,6 @@
 ghost use Rattle.std.specs.Prelude.{◌≡◌, ◌<◌, ◌≤◌, None, length, IfOk, IfSome};
 
 mod storing;
-#[cfg(test)]
-mod tests;
 mod ways;
 
 use crate::{FileFault, Files, StoreFault};

@@ -20,6 +20,3 @@ pub use outside::{Failed, Sink, Source, write_all};
 pub use reader_source::{ReaderSource, StdinSource};
 pub use short_sink::ShortSink;
 pub use writer_sink::{StderrSink, StdoutSink, WriterSink};
-
-#[cfg(test)]
-mod tests;

@@ -5,9 +5,6 @@ ghost use Rattle.ff_io.specs.Cabinet.{CabinetLoads, CabinetStores, entries_of, h
 ghost use Rattle.ff_io.specs.Faults.{HasCause, count_after};
 ghost use Rattle.ff_io.specs.Files.{HoldsBytes, HoldsMore, KeepsAll, KeepsOthers, load_fault, store_fault};
 
-#[cfg(test)]
-mod tests;
-
 use crate::{FileFault, Files, StoreFault};
 use ff_rec::NoMemory;
 use std::alloc::Global;

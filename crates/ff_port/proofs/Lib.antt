@@ -1,3 +1,2 @@
-mod Openings
 mod Puttings
 pub mod Rows

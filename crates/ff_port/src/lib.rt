@@ -15,6 +15,3 @@ pub use own_ports::OwnPorts;
 pub use past::Past;
 pub use ports::Ports;
 pub use queue::PlainQueue;
-
-#[cfg(test)]
-mod tests;

@@ -1,4 +1,3 @@
 mod Counts
 mod Endings
-mod Openings
 mod Prefixes

@@ -78,7 +78,7 @@ impl Bell {
     }
 
     /// The thread is about to try once more.
-    pub(crate) fn tries(&self) {
+    pub fn tries(&self) {
         self.wants_room.store(false, Ordering::SeqCst);
         self.state.store(TRIES, Ordering::SeqCst);
     }
@@ -95,7 +95,7 @@ impl Bell {
     }
 
     /// The thread sleeps until the bell rings or the time is over. It rests meanwhile, if it tried once more.
-    pub(crate) fn sleep<R: Wait>(&self, rt: &R, time: Duration) {
+    pub fn sleep<R: Wait>(&self, rt: &R, time: Duration) {
         let state = &self.state;
         // Where the bell rang behind that try, this changes nothing, and the sleep ends at once.
         let _ = state.compare_exchange(TRIES, RESTS, Ordering::SeqCst, Ordering::SeqCst);

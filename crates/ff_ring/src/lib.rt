@@ -21,6 +21,3 @@ pub use ring_in::RingIn;
 pub use ring_out::RingOut;
 pub use settling::settle;
 pub use spins::Spins;
-
-#[cfg(test)]
-mod tests;
