@@ -6,13 +6,13 @@ use ff_io::Sink;
 use ff_node::{Node, Sends};
 use ff_rec::Record;
 use std::alloc::Global;
-pub(crate) use steps::open;
+pub use steps::open;
 use steps::{end, hand, report_of};
 
 /// A node that works as the records come, whether it ended by itself, what it rejected, and the text of what it sent that
 /// isn't written yet.
 #[derive(Drop)]
-pub(crate) struct Flow<M> {
+pub struct Flow<M> {
     node: M,
     ended: bool,
     sends: Sends,

@@ -18,6 +18,7 @@ mod write;
 
 pub use ending::{Ending, Report, Stop};
 pub use fault::{Halt, RunFault};
+pub use flow::{Flow, open};
 pub use intake::Intake;
 pub use run::run_work;
 pub use stream::run_stream;
@@ -25,6 +26,3 @@ pub use taking::take_stream;
 pub use text::Text;
 pub use work::Work;
 pub use write::write_records;
-
-#[cfg(test)]
-mod tests;

@@ -11,7 +11,7 @@ use ff_rec::{NoMemory, Record};
 use std::alloc::Global;
 
 /// A node in its opening state. Its rejected records are kept where `keep` says so.
-pub(crate) fn open<M: Node>(alloc: Global, mut node: M, keep: bool) -> Flow<M>
+pub fn open<M: Node>(alloc: Global, mut node: M, keep: bool) -> Flow<M>
     ensures { IsOpened M.does node keep result }
 {
     node.svc_init();

@@ -1,8 +1,8 @@
 // Text that is held, and records that are written at once.
-use crate::{Halt, Text, write_records};
 use ff_io::{Failed, MemSink};
 use ff_node::Sends;
 use ff_rec::{Field, Record, Records};
+use ff_stream::{Halt, Text, write_records};
 use std::alloc::Global;
 use std::process::Abort;
 use std::test::Fail;

@@ -4,11 +4,11 @@ mod nodes;
 mod takings;
 mod texts;
 
-use crate::{Ending, Report, RunFault, Stop, run_stream};
 use ff_io::{MemSink, MemSource};
 use ff_net::Version;
 use ff_node::Node;
 use ff_rec::Record;
+use ff_stream::{Ending, Report, RunFault, Stop, run_stream};
 use nodes::{Gate, Last};
 use std::alloc::Global;
 use std::process::Abort;

@@ -1,9 +1,9 @@
 // Runs that end before the end of their input.
 use super::nodes::{Gate, Last};
 use super::{DONE, Devices, Kind, SOUND, WRITE, check, run, sink_of, source_of};
-use crate::Stop;
 use ff_io::Source;
 use ff_rec::LineFault;
+use ff_stream::Stop;
 use std::alloc::Global;
 use std::process::Abort;
 use std::test::Fail;

@@ -1,10 +1,9 @@
 // A stream that is taken in, and its work behind it.
 use super::nodes::Gate;
 use super::{Devices, SOUND, sink_of, source_of};
-use crate::flow::{Flow, open};
-use crate::{Halt, Report, RunFault, Stop, Work, take_stream};
 use ff_io::{MemSink, MemSource};
 use ff_net::Version;
+use ff_stream::{Flow, Halt, Report, RunFault, Stop, Work, open, take_stream};
 use std::alloc::Global;
 use std::process::Abort;
 use std::test::Fail;
