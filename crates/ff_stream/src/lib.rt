@@ -18,7 +18,7 @@ mod write;
 
 pub use ending::{Ending, Report, Stop};
 pub use fault::{Halt, RunFault};
-pub use flow::{Flow, open};
+pub use flow::{Flow, open as open_flow};
 pub use intake::Intake;
 pub use run::run_work;
 pub use stream::run_stream;

@@ -3,7 +3,7 @@ use super::nodes::Gate;
 use super::{Devices, SOUND, sink_of, source_of};
 use ff_io::{MemSink, MemSource};
 use ff_net::Version;
-use ff_stream::{Flow, Halt, Report, RunFault, Stop, Work, open, take_stream};
+use ff_stream::{Flow, Halt, Report, RunFault, Stop, Work, open_flow, take_stream};
 use std::alloc::Global;
 use std::process::Abort;
 use std::test::Fail;
@@ -39,7 +39,7 @@ fn streams_are_taken_in(rt: HostRuntime) -> Result<(), Fail> {
             fails,
             budget,
         };
-        let mut flow = open(rt.alloc(), Gate::open(), false);
+        let mut flow = open_flow(rt.alloc(), Gate::open(), false);
         let mut sink = sink_of(rt.alloc(), by)?;
         let got = take_lines(&rt, rt.alloc(), &mut flow, &mut sink, by)?;
         assert_eq!(rt; got, answer);
@@ -55,7 +55,7 @@ fn end<W: Work<Gate>>(alloc: Global, work: W, sink: &mut MemSink) -> Result<Repo
 
 #[test]
 fn work_goes_on_behind_a_stream(rt: HostRuntime) -> Result<(), Fail> {
-    let mut flow = open(rt.alloc(), Gate::open(), false);
+    let mut flow = open_flow(rt.alloc(), Gate::open(), false);
     let mut sink = sink_of(rt.alloc(), SOUND)?;
     let got = take_lines(&rt, rt.alloc(), &mut flow, &mut sink, SOUND)?;
     assert_eq!(rt; got, Ok(Stop::End));
