@@ -78,6 +78,7 @@ impl Behind {
     }
 
     /// Holds one message, where there is none.
+    #[inline(always)]
     pub fn hold(&mut self, first: Pair)
         requires { self.old ≡ [] }
         ensures { self.new ≡ first ∷ [] }

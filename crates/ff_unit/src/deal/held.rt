@@ -86,6 +86,7 @@ impl Held {
     }
 
     /// Holds one message, where nothing is held. Quicker than to make all of it anew.
+    #[inline(always)]
     pub fn hold(&mut self, first: Pair)
         requires { self.old ≡ [] }
         ensures { self.new ≡ first ∷ [] }
@@ -94,6 +95,7 @@ impl Held {
     }
 
     /// Holds two messages, where nothing is held.
+    #[inline(always)]
     pub fn hold_two(&mut self, first: Pair, second: Pair)
         requires { self.old ≡ [] }
         ensures { self.new ≡ first ∷ second ∷ [] }

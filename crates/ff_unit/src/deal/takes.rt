@@ -56,10 +56,7 @@ impl Deal {
                 self.turn = next_place(self.places, self.turn);
             }
             Dealing::OnDemand => self.free = Some(r),
-            Dealing::ByKey(field) => {
-                let place = place_of(&r, field, self.places);
-                self.held.hold((place, Msg::Item(r)));
-            }
+            Dealing::ByKey(field) => self.deal_by_key(field, r),
             Dealing::GroupsInTurn => {
                 self.held
                     .hold_two((self.turn, Msg::Item(r)), (self.turn, Msg::Mark));
@@ -67,6 +64,18 @@ impl Deal {
             }
             Dealing::GroupsOnDemand => self.free = Some(r),
         }
+    }
+
+    // The record goes to the place of its key. It stands apart: a look at a field needs the record in memory, and a record that is
+    // dealt in another way passes that by.
+    #[inline(never)]
+    fn deal_by_key(&mut self, field: u32, r: Record)
+        requires held { self.old.held ≡ [] }
+        requires turn { self.old.turn < self.old.places }
+        ensures { self.new ≡ deals_one (Dealing.ByKey field) self.old r }
+    {
+        let place = place_of(&r, field, self.places);
+        self.held.hold((place, Msg::Item(r)));
     }
 
     // The in has ended, and its last message is told on every out. Where memory was short Abort was told before.
