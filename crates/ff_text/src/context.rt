@@ -12,21 +12,21 @@ use std::alloc::Global;
 
 /// A word and the network that it stands for.
 #[derive(Drop)]
-pub(crate) struct NamedNet {
-    pub(crate) word: Vec<u8>,
-    pub(crate) net: Net<Op>,
+pub struct NamedNet {
+    pub word: Vec<u8>,
+    pub net: Net<Op>,
 }
 
 /// The version of a text, and the names that stand for networks in it.
 #[derive(Drop)]
-pub(crate) struct Context {
+pub struct Context {
     pub(crate) version: Version,
     names: Vec<NamedNet>,
 }
 
 impl Context {
     /// No word stands for a network yet.
-    pub(crate) fn new(alloc: Global, version: Version) -> Context
+    pub fn new(alloc: Global, version: Version) -> Context
         ensures { context_of result ≡ record { version = version; names = [] } }
     {
         Context {
@@ -46,7 +46,7 @@ impl Context {
     }
 
     /// Lets a word stand for a network, where no earlier name has this word.
-    pub(crate) fn name(&mut self, named: NamedNet) -> Result<(), NoMemory>
+    pub fn name(&mut self, named: NamedNet) -> Result<(), NoMemory>
         ensures version { self.new.version ≡ self.old.version }
         ensures names { OnOk result
             (names_of self.new ≡ names_of self.old ++ name_of named ∷ []) }

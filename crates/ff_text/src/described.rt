@@ -13,9 +13,6 @@ ghost use Rattle.ff_text.specs.Seen.{context_of};
 ghost use Rattle.ff_text.specs.Tokens.{Stop};
 ghost use Rattle.ff_text.specs.Wants.{Finish};
 
-#[cfg(test)]
-mod tests;
-
 use crate::context::Context;
 use crate::misplaced::misplaced;
 use crate::network::network;

@@ -7,9 +7,6 @@ ghost use Rattle.ff_text.specs.PrintLaw.{PrintedNetsAreSpelled, PrintedNetsAreRe
 ghost use Rattle.ff_text.specs.SpellingLaw.{SpellingIsOfOneNet, SpelledWithoutNames};
 ghost use Rattle.ff_text.specs.WantLaws.{TextsAreTaken, StopsAreFaults};
 
-#[cfg(test)]
-mod tests;
-
 use ff_rec::printed_numbers_are_read;
 
 /// What stands at the front of a text comes first, and then what is cut from the bytes behind it.

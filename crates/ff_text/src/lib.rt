@@ -18,13 +18,12 @@ mod operation;
 mod print;
 mod reader;
 mod schedule;
-#[cfg(test)]
-mod tables;
 mod text_mark;
 mod token;
 mod token_argument;
 mod wrap_test;
 
+pub use context::{Context, NamedNet};
 pub use described::{Described, read_net};
 pub use fault::{ReadFault, TextKind};
 pub use laws::{
@@ -33,6 +32,7 @@ pub use laws::{
     printed_operations_are_read, printed_pieces_are_cut_into_them, stops_are_first_faults,
     texts_are_cut_from_the_front, texts_of_networks_are_taken, texts_stop_at_their_end,
 };
+pub use network::network as network_ahead;
 pub use print::{print_described, print_net, print_plan};
 pub use reader::Reader;
 pub use text_mark::TextMark;

@@ -10,9 +10,6 @@ ghost use Rattle.ff_text.specs.Spelling.{Spells, InMarks, MarksBehind};
 ghost use Rattle.ff_text.specs.Tokens.{Word};
 ghost use Rattle.ff_text.specs.Wants.{Network, Argument, Opening, Closing, begin_use};
 
-#[cfg(test)]
-mod tests;
-
 use crate::argument::count;
 use crate::context::Context;
 use crate::delimiters::{closing, opening};
@@ -27,7 +24,7 @@ use std::alloc::Global;
 
 /// A network with at most `room` forms round one another.
 #[cycle(networks)]
-pub(crate) fn network(
+pub fn network(
     alloc: Global,
     context: &Context,
     room: usize,

@@ -5,8 +5,6 @@ ghost use Rattle.ff_text.specs.NetPrinting.{printed_farm, printed_net, printed_p
 
 mod form_words;
 mod plan;
-#[cfg(test)]
-mod tests;
 
 use crate::Described;
 use crate::print::form_words::{print_front, print_middle, print_side, print_test};

@@ -4,9 +4,6 @@ ghost use Rattle.ff_text.specs.Cutting.{ahead, tokens};
 ghost use Rattle.ff_text.specs.Seen.{spot_of, token_of, behind};
 ghost use Rattle.ff_text.specs.Tokens.{Stop, HasPlainText};
 
-#[cfg(test)]
-mod tests;
-
 use crate::lexeme::first_lexeme;
 use crate::{PlacedToken, Token};
 use std::marker::Model;

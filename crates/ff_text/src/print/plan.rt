@@ -4,9 +4,6 @@ ghost use Rattle.ff_net.specs.At.{net_at};
 ghost use Rattle.ff_net.specs.Tree.{tree_of};
 ghost use Rattle.ff_text.specs.PlanText.{kind_field, kind_word, printed_edges, printed_label, printed_node, printed_ports, printed_unit, printed_units, printed_work};
 
-#[cfg(test)]
-mod tests;
-
 use super::form_words::print_count;
 use super::print_net;
 use ff_net::{Checked, Net, Path};

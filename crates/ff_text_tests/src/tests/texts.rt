@@ -1,7 +1,6 @@
 // What no clause says: that networks are read while memory is there. The texts and places are counted by hand.
-use super::read_net;
-use crate::ReadFault;
-use crate::tables::expect_told;
+use super::tables::expect_told;
+use ff_text::{ReadFault, read_net};
 use std::alloc::{AllocError, Global};
 use std::process::Abort;
 use std::test::Fail;

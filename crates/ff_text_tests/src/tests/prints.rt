@@ -1,9 +1,8 @@
 // The printed forms are written by hand from the rules of a text.
-use super::{print_described, print_net};
-use crate::tables::{expect_told, text_of};
-use crate::{Described, read_net};
+use super::tables::{expect_told, text_of};
 use ff_net::Version;
 use ff_rec::NoMemory;
+use ff_text::{Described, print_described, print_net, read_net};
 use std::alloc::Global;
 use std::process::Abort;
 use std::test::Fail;

@@ -3,7 +3,7 @@ use std::alloc::{AllocError, Global};
 use std::process::Abort;
 
 /// The text that a column stands for.
-pub(crate) fn text_of(alloc: Global, column: &str) -> Result<String, AllocError> {
+pub fn text_of(alloc: Global, column: &str) -> Result<String, AllocError> {
     let mut text = String::new(alloc);
     let mut marked = false;
     for c in column.chars() {
@@ -28,6 +28,6 @@ fn marked_char(c: char) -> char {
 }
 
 /// What is told of a text is what is wanted.
-pub(crate) fn expect_told(rt: &impl Abort, text: &[u8], found: &[u8], want: &[u8]) {
+pub fn expect_told(rt: &impl Abort, text: &[u8], found: &[u8], want: &[u8]) {
     assert_eq!(rt; found, want, "{text:?}");
 }

@@ -1,6 +1,6 @@
 // The expected tokens and places are counted by hand from the rules of a text.
-use super::*;
-use crate::tables::{expect_told, text_of};
+use super::tables::{expect_told, text_of};
+use ff_text::{PlacedToken, Reader, Token};
 use std::alloc::{AllocError, Global};
 use std::process::Abort;
 use std::test::Fail;

@@ -1,10 +1,10 @@
 // Operations are printed, and read again by their texts; the texts that are given are written by hand.
-use crate::tables::expect_told;
-use crate::{Described, read_net};
+use super::tables::expect_told;
 use ff_net::Net;
 use ff_node::Cmp;
 use ff_ops::{Arg, ArgKind, Op, ROWS, Row};
 use ff_rec::{Field, NoMemory};
+use ff_text::{Described, read_net};
 use std::alloc::{AllocError, Global};
 use std::process::Abort;
 use std::test::Fail;

@@ -3,12 +3,12 @@ ghost use Rattle.std.specs.Prelude.{OnOk, IfOk};
 ghost use Rattle.ff_text.specs.Names.{AreNets};
 ghost use Rattle.ff_text.specs.Seen.{names_of};
 
-use super::network;
-use crate::context::{Context, NamedNet};
-use crate::tables::expect_told;
-use crate::{Described, ReadFault, Reader, Token, print_net, read_net};
+use super::tables::expect_told;
 use ff_net::{Net, Version};
 use ff_ops::Op;
+use ff_text::{
+    Context, Described, NamedNet, ReadFault, Reader, Token, network_ahead, print_net, read_net,
+};
 use std::alloc::Global;
 use std::process::Abort;
 use std::test::Fail;
@@ -39,7 +39,7 @@ fn told(alloc: Global, context: &Context, room: usize, text: &[u8]) -> Result<St
     requires { AreNets (names_of context.now) }
 {
     let mut reader = Reader::new(text);
-    match network(alloc, context, room, &mut reader) {
+    match network_ahead(alloc, context, room, &mut reader) {
         Ok(net) => shown(alloc, &net, &reader),
         Err(ReadFault::Text { at, kind }) => Ok(format!(in alloc; "{at} {kind:?}")?),
         Err(fault) => Ok(format!(in alloc; "{fault:?}")?),

@@ -1,8 +1,8 @@
 // The printed plans are written by hand from the rules by which networks are laid.
-use crate::tables::{expect_told, text_of};
-use crate::{print_plan, read_net};
+use super::tables::{expect_told, text_of};
 use ff_net::check;
 use ff_plan::{Queue, plan};
+use ff_text::{print_plan, read_net};
 use std::alloc::Global;
 use std::process::Abort;
 use std::test::Fail;
