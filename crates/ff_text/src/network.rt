@@ -22,7 +22,7 @@ use ff_net::Net;
 use ff_ops::{Op, Row};
 use std::alloc::Global;
 
-/// A network with at most `room` forms round one another.
+/// The network at the front of what the reader has left, with at most `room` forms round one another.
 #[cycle(networks)]
 pub fn network(
     alloc: Global,
