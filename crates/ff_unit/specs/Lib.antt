@@ -12,6 +12,7 @@ pub mod Takes
 -- lemmas: nothing to trust
 pub mod MessageLaws
 pub mod RunLaws
+pub mod StepLaws
 pub mod FlagLaws
 pub mod CarriedLaws
 pub mod ShareLaws

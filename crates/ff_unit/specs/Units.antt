@@ -8,6 +8,7 @@ use Rattle.ff_port.specs.declared.answers.End.{End}
 use Rattle.ff_port.specs.declared.answers.End.TheVariants.{Eos, Abort}
 use Rattle.ff_port.specs.declared.answers.Step.{Step}
 use Rattle.ff_port.specs.declared.answers.Step.TheVariants.{Moved, Waits, Ended}
+use Rattle.ff_port.specs.declared.ports.Ports.{Ghosts}
 
 -- what a unit knows of its ports: how many messages are there at each in, how much room at each out, and how many messages
 -- wait to be handed over
@@ -94,6 +95,21 @@ EndedOnly d u Waits v waiting = Unit {0}
 EndedOnly d u (Ended fin) v waiting =
     (d.done v ≡ true) × (d.fin v ≡ Some fin) × d.Rests v × ((d.done u ≡ true → ⊥) → waiting ≡ 0)
 
+-- one step of a unit is exactly one act; where it waits its due port was tried, where it ends it ends as was decided; and what its
+-- ports are paired with stays. `ports` is what is seen of them, at `before` and at `after`
+pub record StepsOnce {U S : Type 0} (d : Doing U) (ports : Ghosts S Rec) (u : U) (before : S) (answer : Step) (v : U) (after : S) : Type 0 where
+  pub one : One d u (ports.gots before) (ports.puts before) answer v (ports.gots after) (ports.puts after)
+  pub waits : WaitsOnly d u answer (known (ports.knowns before) (ports.rooms before) (ports.waiting before))
+      (known (ports.knowns after) (ports.rooms after) (ports.waiting after))
+  pub ended : EndedOnly d u answer v (ports.waiting after)
+  pub linked : ports.link after ≡ ports.link before
+
+-- a unit that has ended does nothing more
+pub record StaysAt {U S : Type 0} (ports : Ghosts S Rec) (u : U) (before : S) (v : U) (after : S) : Type 0 where
+  pub unit : v ≡ u
+  pub gots_same : ports.gots after ≡ ports.gots before
+  pub puts_same : ports.puts after ≡ ports.puts before
+
 -- a unit has ended as the answer tells, with nothing held, where it tells an end
 abbrev pub EndsAs : {U : Type 0} → Doing U → Step → U → Type 0
 EndsAs d Moved v = Unit {0}
@@ -124,12 +140,6 @@ pub record StepsOn {U : Type 0} (d : Doing U) (u : U) (gots puts : List (List Me
   pub last : One d before_last gots_before puts_before last_answer v gots' puts'
   pub ended : EndedOnly d before_last last_answer v waiting
   pub answers : answer ≡ answer_behind moves last_answer
-
--- a unit that has ended does nothing more
-pub record StaysAt {U : Type 0} (u : U) (gots puts : List (List Message)) (v : U) (gots' puts' : List (List Message)) : Type 0 where
-  pub unit : v ≡ u
-  pub gots_same : gots' ≡ gots
-  pub puts_same : puts' ≡ puts
 
 -- how a unit ended, once it has
 abbrev pub end_of : {U : Type 0} → Doing U → U → Option End

@@ -11,7 +11,7 @@ pub trait Unit: Drop {
     ghost use Rattle.std.specs.Prelude.{◌≡◌, ◌⊎◌, ◌<◌, ℕ, List, true, [], ◌∷◌, replicate, slice_index};
     ghost use Rattle.ff_rec.specs.declared.msg.Msg.TheVariants.{Abort as AbortMsg};
     ghost use Rattle.ff_node.specs.Runs.{Message, FitsWhole};
-    ghost use Rattle.ff_unit.specs.Units.{Doing, IsUnit, Ran, One, StepsOn, WaitsOnly, EndedOnly};
+    ghost use Rattle.ff_unit.specs.Units.{Doing, IsUnit, Ran, One, StepsOnce, StepsOn, WaitsOnly, EndedOnly};
     ghost use Rattle.ff_unit.specs.Units.{known, end_of, HandsReject, HasRejects, TookAbort, StaysAt};
 
     /// What it does, by what is seen of it.
@@ -20,16 +20,9 @@ pub trait Unit: Drop {
     /// One step, without what follows from the whole run: call `step`.
     fn step_once<P: Ports<Record>>(&mut self, ports: &mut P) -> Step
         requires { does.Ready self.old (P.gots ports.old) (P.puts ports.old) }
-        ensures one { One does self.old (P.gots ports.old) (P.puts ports.old)
-            result self.new (P.gots ports.new) (P.puts ports.new) }
-        ensures waits { WaitsOnly does self.old result
-            (known (P.knowns ports.old) (P.rooms ports.old) (P.waiting ports.old))
-            (known (P.knowns ports.new) (P.rooms ports.new) (P.waiting ports.new)) }
-        ensures ended { EndedOnly does self.old result self.new (P.waiting ports.new) }
+        ensures once { StepsOnce does P.Ports self.old ports.old result self.new ports.new }
         ensures again { does.done self.old ≡ true
-            → StaysAt self.old (P.gots ports.old) (P.puts ports.old)
-            self.new (P.gots ports.new) (P.puts ports.new) }
-        ensures link { P.link ports.new ≡ P.link ports.old };
+            → StaysAt P.Ports self.old ports.old self.new ports.new };
 
     /// What being told to abort makes of a unit whose outs were each given Abort: call `abort`.
     fn end_aborted(&mut self)
@@ -78,8 +71,7 @@ pub trait Unit: Drop {
             (known (P.knowns ports.new) (P.rooms ports.new) (P.waiting ports.new)) }
         ensures ended { EndedOnly does self.old result self.new (P.waiting ports.new) }
         ensures again { does.done self.old ≡ true
-            → StaysAt self.old (P.gots ports.old) (P.puts ports.old)
-            self.new (P.gots ports.new) (P.puts ports.new) }
+            → StaysAt P.Ports self.old ports.old self.new ports.new }
     {
         self.step_once(ports)
     }

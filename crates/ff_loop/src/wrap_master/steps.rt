@@ -1,7 +1,7 @@
 // How a master steps.
 ghost use Rattle.std.specs.Prelude.{◌≡◌, [], true, false, length, suc};
 ghost use Rattle.ff_unit.specs.Closing.{any_live};
-ghost use Rattle.ff_unit.specs.Units.{known, One, WaitsOnly, EndedOnly, StaysAt};
+ghost use Rattle.ff_unit.specs.Units.{StepsOnce, StaysAt};
 ghost use Rattle.ff_unit.specs.declared.mode.Mode.TheVariants.{Live};
 ghost use Rattle.ff_loop.specs.Rounds.{workers_of};
 ghost use Rattle.ff_loop.specs.WrapMasters.{wrap_does, IsSized, OwesOnly};
@@ -19,16 +19,9 @@ impl WrapMaster {
         requires owes { self.old.mode ≡ Live → OwesOnly self.old }
         requires ins { length (P.gots ports.old) ≡ suc (workers_of self.old.round) }
         requires done { self.old.done ≡ true → any_live self.old.live ≡ false }
-        ensures one { One wrap_does self.old (P.gots ports.old) (P.puts ports.old)
-            result self.new (P.gots ports.new) (P.puts ports.new) }
-        ensures waits { WaitsOnly wrap_does self.old result
-            (known (P.knowns ports.old) (P.rooms ports.old) (P.waiting ports.old))
-            (known (P.knowns ports.new) (P.rooms ports.new) (P.waiting ports.new)) }
-        ensures ended { EndedOnly wrap_does self.old result self.new (P.waiting ports.new) }
+        ensures once { StepsOnce wrap_does P.Ports self.old ports.old result self.new ports.new }
         ensures again { self.old.done ≡ true
-            → StaysAt self.old (P.gots ports.old) (P.puts ports.old)
-            self.new (P.gots ports.new) (P.puts ports.new) }
-        ensures link { P.link ports.new ≡ P.link ports.old }
+            → StaysAt P.Ports self.old ports.old self.new ports.new }
     {
         if self.live.any() {
             self.take_one(ports)
@@ -46,13 +39,7 @@ impl WrapMaster {
         requires owes { self.old.mode ≡ Live → OwesOnly self.old }
         requires ins { length (P.gots ports.old) ≡ suc (workers_of self.old.round) }
         requires goes_on { any_live self.old.live ≡ true }
-        ensures one { One wrap_does self.old (P.gots ports.old) (P.puts ports.old)
-            result self.new (P.gots ports.new) (P.puts ports.new) }
-        ensures waits { WaitsOnly wrap_does self.old result
-            (known (P.knowns ports.old) (P.rooms ports.old) (P.waiting ports.old))
-            (known (P.knowns ports.new) (P.rooms ports.new) (P.waiting ports.new)) }
-        ensures ended { EndedOnly wrap_does self.old result self.new (P.waiting ports.new) }
-        ensures link { P.link ports.new ≡ P.link ports.old }
+        ensures { StepsOnce wrap_does P.Ports self.old ports.old result self.new ports.new }
     {
         match take_any(&self.live, 0, ports) {
             None => Step::Waits,
@@ -69,13 +56,7 @@ impl WrapMaster {
         requires held { self.old.held ≡ [] }
         requires none { any_live self.old.live ≡ false }
         requires goes_on { self.old.done ≡ false }
-        ensures one { One wrap_does self.old (P.gots ports.old) (P.puts ports.old)
-            result self.new (P.gots ports.new) (P.puts ports.new) }
-        ensures waits { WaitsOnly wrap_does self.old result
-            (known (P.knowns ports.old) (P.rooms ports.old) (P.waiting ports.old))
-            (known (P.knowns ports.new) (P.rooms ports.new) (P.waiting ports.new)) }
-        ensures ended { EndedOnly wrap_does self.old result self.new (P.waiting ports.new) }
-        ensures link { P.link ports.new ≡ P.link ports.old }
+        ensures { StepsOnce wrap_does P.Ports self.old ports.old result self.new ports.new }
     {
         if ports.flush() {
             self.done = true;

@@ -2,7 +2,7 @@
 ghost use Rattle.std.specs.Prelude.{◌≡◌, ◌<◌, ◌≤◌, [], true, false, length};
 ghost use Rattle.ff_port.specs.declared.answers.End.TheVariants.{Eos, Abort, Memory};
 ghost use Rattle.ff_unit.specs.Closing.{IsLive, any_live};
-ghost use Rattle.ff_unit.specs.Units.{known, One, WaitsOnly, EndedOnly, StaysAt};
+ghost use Rattle.ff_unit.specs.Units.{StepsOnce, StaysAt};
 ghost use Rattle.ff_order.specs.OMerges.{omerge_does, OMergeReady, omerge_ins};
 
 use super::OMerge;
@@ -15,16 +15,9 @@ impl OMerge {
     pub(super) fn go_on<P: Ports<Record>>(&mut self, ports: &mut P) -> Step
         requires held { self.old.held ≡ [] }
         requires ready { OMergeReady self.old (P.gots ports.old) (P.puts ports.old) }
-        ensures one { One omerge_does self.old (P.gots ports.old) (P.puts ports.old)
-            result self.new (P.gots ports.new) (P.puts ports.new) }
-        ensures waits { WaitsOnly omerge_does self.old result
-            (known (P.knowns ports.old) (P.rooms ports.old) (P.waiting ports.old))
-            (known (P.knowns ports.new) (P.rooms ports.new) (P.waiting ports.new)) }
-        ensures ended { EndedOnly omerge_does self.old result self.new (P.waiting ports.new) }
+        ensures once { StepsOnce omerge_does P.Ports self.old ports.old result self.new ports.new }
         ensures again { self.old.done ≡ true
-            → StaysAt self.old (P.gots ports.old) (P.puts ports.old)
-            self.new (P.gots ports.new) (P.puts ports.new) }
-        ensures link { P.link ports.new ≡ P.link ports.old }
+            → StaysAt P.Ports self.old ports.old self.new ports.new }
     {
         if !self.live.any() {
             return self.finish(ports);
@@ -43,13 +36,7 @@ impl OMerge {
         requires due { IsLive self.old.live self.old.due }
         requires within { self.old.due < length (P.gots ports.old) }
         requires flags { length self.old.live ≡ length (P.gots ports.old) }
-        ensures one { One omerge_does self.old (P.gots ports.old) (P.puts ports.old)
-            result self.new (P.gots ports.new) (P.puts ports.new) }
-        ensures waits { WaitsOnly omerge_does self.old result
-            (known (P.knowns ports.old) (P.rooms ports.old) (P.waiting ports.old))
-            (known (P.knowns ports.new) (P.rooms ports.new) (P.waiting ports.new)) }
-        ensures ended { EndedOnly omerge_does self.old result self.new (P.waiting ports.new) }
-        ensures link { P.link ports.new ≡ P.link ports.old }
+        ensures { StepsOnce omerge_does P.Ports self.old ports.old result self.new ports.new }
     {
         let due = self.due;
         match ports.try_take(due) {
@@ -67,13 +54,7 @@ impl OMerge {
         requires goes_on { any_live self.old.live ≡ true }
         requires flags { length self.old.live ≡ length (P.gots ports.old) }
         requires rest { self.old.mode ≡ Mode.Live → ⊥ }
-        ensures one { One omerge_does self.old (P.gots ports.old) (P.puts ports.old)
-            result self.new (P.gots ports.new) (P.puts ports.new) }
-        ensures waits { WaitsOnly omerge_does self.old result
-            (known (P.knowns ports.old) (P.rooms ports.old) (P.waiting ports.old))
-            (known (P.knowns ports.new) (P.rooms ports.new) (P.waiting ports.new)) }
-        ensures ended { EndedOnly omerge_does self.old result self.new (P.waiting ports.new) }
-        ensures link { P.link ports.new ≡ P.link ports.old }
+        ensures { StepsOnce omerge_does P.Ports self.old ports.old result self.new ports.new }
     {
         match take_any(&self.live, self.due, ports) {
             None => Step::Waits,
@@ -88,16 +69,9 @@ impl OMerge {
     fn finish<P: Ports<Record>>(&mut self, ports: &mut P) -> Step
         requires held { self.old.held ≡ [] }
         requires none { any_live self.old.live ≡ false }
-        ensures one { One omerge_does self.old (P.gots ports.old) (P.puts ports.old)
-            result self.new (P.gots ports.new) (P.puts ports.new) }
-        ensures waits { WaitsOnly omerge_does self.old result
-            (known (P.knowns ports.old) (P.rooms ports.old) (P.waiting ports.old))
-            (known (P.knowns ports.new) (P.rooms ports.new) (P.waiting ports.new)) }
-        ensures ended { EndedOnly omerge_does self.old result self.new (P.waiting ports.new) }
+        ensures once { StepsOnce omerge_does P.Ports self.old ports.old result self.new ports.new }
         ensures again { self.old.done ≡ true
-            → StaysAt self.old (P.gots ports.old) (P.puts ports.old)
-            self.new (P.gots ports.new) (P.puts ports.new) }
-        ensures link { P.link ports.new ≡ P.link ports.old }
+            → StaysAt P.Ports self.old ports.old self.new ports.new }
     {
         if self.done {
             return Step::Ended(self.end);

@@ -2,7 +2,7 @@
 ghost use Rattle.std.specs.Prelude.{◌≡◌, ◌<◌, [], true, false, Some, None, length, ℕ};
 ghost use Rattle.ff_rec.specs.Streams.{IsOpen, at};
 ghost use Rattle.ff_unit.specs.Deals.{deal_does, deal_outs};
-ghost use Rattle.ff_unit.specs.Units.{known, One, WaitsOnly, EndedOnly, StaysAt};
+ghost use Rattle.ff_unit.specs.Units.{StepsOnce, StaysAt};
 
 use super::Deal;
 use super::offer::{Offer, put_anywhere};
@@ -18,16 +18,9 @@ impl Deal {
         requires one_in { length (P.gots ports.old) ≡ 1 }
         requires turn { self.old.turn < self.old.places }
         requires done { self.old.done ≡ true → self.old.live ≡ false }
-        ensures one { One deal_does self.old (P.gots ports.old) (P.puts ports.old)
-            result self.new (P.gots ports.new) (P.puts ports.new) }
-        ensures waits { WaitsOnly deal_does self.old result
-            (known (P.knowns ports.old) (P.rooms ports.old) (P.waiting ports.old))
-            (known (P.knowns ports.new) (P.rooms ports.new) (P.waiting ports.new)) }
-        ensures ended { EndedOnly deal_does self.old result self.new (P.waiting ports.new) }
+        ensures once { StepsOnce deal_does P.Ports self.old ports.old result self.new ports.new }
         ensures again { self.old.done ≡ true
-            → StaysAt self.old (P.gots ports.old) (P.puts ports.old)
-            self.new (P.gots ports.new) (P.puts ports.new) }
-        ensures link { P.link ports.new ≡ P.link ports.old }
+            → StaysAt P.Ports self.old ports.old self.new ports.new }
     {
         if self.live {
             self.take_one(ports)
@@ -46,13 +39,7 @@ impl Deal {
         requires live { self.old.live ≡ true }
         requires one_in { length (P.gots ports.old) ≡ 1 }
         requires turn { self.old.turn < self.old.places }
-        ensures one { One deal_does self.old (P.gots ports.old) (P.puts ports.old)
-            result self.new (P.gots ports.new) (P.puts ports.new) }
-        ensures waits { WaitsOnly deal_does self.old result
-            (known (P.knowns ports.old) (P.rooms ports.old) (P.waiting ports.old))
-            (known (P.knowns ports.new) (P.rooms ports.new) (P.waiting ports.new)) }
-        ensures ended { EndedOnly deal_does self.old result self.new (P.waiting ports.new) }
-        ensures link { P.link ports.new ≡ P.link ports.old }
+        ensures { StepsOnce deal_does P.Ports self.old ports.old result self.new ports.new }
     {
         match ports.try_take(0) {
             None => Step::Waits,
@@ -69,13 +56,7 @@ impl Deal {
         requires held { self.old.held ≡ [] }
         requires ended { self.old.live ≡ false }
         requires goes_on { self.old.done ≡ false }
-        ensures one { One deal_does self.old (P.gots ports.old) (P.puts ports.old)
-            result self.new (P.gots ports.new) (P.puts ports.new) }
-        ensures waits { WaitsOnly deal_does self.old result
-            (known (P.knowns ports.old) (P.rooms ports.old) (P.waiting ports.old))
-            (known (P.knowns ports.new) (P.rooms ports.new) (P.waiting ports.new)) }
-        ensures ended { EndedOnly deal_does self.old result self.new (P.waiting ports.new) }
-        ensures link { P.link ports.new ≡ P.link ports.old }
+        ensures { StepsOnce deal_does P.Ports self.old ports.old result self.new ports.new }
     {
         if ports.flush() {
             self.done = true;
@@ -91,14 +72,8 @@ impl Deal {
         requires outs { length (P.puts ports.old) ≡ deal_outs self.old.way self.old.places }
         requires open { (w : ℕ) → w < self.old.places → IsOpen (at (P.puts ports.old) w) }
         requires goes_on { self.old.done ≡ false }
-        ensures one { One deal_does (record self.old { free = Some r }) (P.gots ports.old) (P.puts ports.old)
-            result self.new (P.gots ports.new) (P.puts ports.new) }
-        ensures waits { WaitsOnly deal_does (record self.old { free = Some r }) result
-            (known (P.knowns ports.old) (P.rooms ports.old) (P.waiting ports.old))
-            (known (P.knowns ports.new) (P.rooms ports.new) (P.waiting ports.new)) }
-        ensures ended { EndedOnly deal_does (record self.old { free = Some r }) result
-            self.new (P.waiting ports.new) }
-        ensures link { P.link ports.new ≡ P.link ports.old }
+        ensures { StepsOnce deal_does P.Ports (record self.old { free = Some r }) ports.old
+            result self.new ports.new }
     {
         match put_anywhere(ports, self.places, r) {
             Offer::Done(place) => {

@@ -2,7 +2,7 @@
 ghost use Rattle.std.specs.Prelude.{◌≡◌, [], true, false, length, slice_set};
 ghost use Rattle.ff_unit.specs.Closing.{any_live, IsLive};
 ghost use Rattle.ff_unit.specs.Merges.{merge_does, merge_takes, merge_closes, forwarded};
-ghost use Rattle.ff_unit.specs.Units.{known, One, WaitsOnly, EndedOnly, StaysAt};
+ghost use Rattle.ff_unit.specs.Units.{StepsOnce, StaysAt};
 
 use super::Merge;
 use crate::closing::{last_message, spoil};
@@ -17,16 +17,9 @@ impl Merge {
         requires held { self.old.held ≡ [] }
         requires ins { length (P.gots ports.old) ≡ length self.old.live }
         requires done { self.old.done ≡ true → any_live self.old.live ≡ false }
-        ensures one { One merge_does self.old (P.gots ports.old) (P.puts ports.old)
-            result self.new (P.gots ports.new) (P.puts ports.new) }
-        ensures waits { WaitsOnly merge_does self.old result
-            (known (P.knowns ports.old) (P.rooms ports.old) (P.waiting ports.old))
-            (known (P.knowns ports.new) (P.rooms ports.new) (P.waiting ports.new)) }
-        ensures ended { EndedOnly merge_does self.old result self.new (P.waiting ports.new) }
+        ensures once { StepsOnce merge_does P.Ports self.old ports.old result self.new ports.new }
         ensures again { self.old.done ≡ true
-            → StaysAt self.old (P.gots ports.old) (P.puts ports.old)
-            self.new (P.gots ports.new) (P.puts ports.new) }
-        ensures link { P.link ports.new ≡ P.link ports.old }
+            → StaysAt P.Ports self.old ports.old self.new ports.new }
     {
         if self.live.any() {
             self.take_one(ports)
@@ -41,13 +34,7 @@ impl Merge {
         requires held { self.old.held ≡ [] }
         requires live { any_live self.old.live ≡ true }
         requires ins { length (P.gots ports.old) ≡ length self.old.live }
-        ensures one { One merge_does self.old (P.gots ports.old) (P.puts ports.old)
-            result self.new (P.gots ports.new) (P.puts ports.new) }
-        ensures waits { WaitsOnly merge_does self.old result
-            (known (P.knowns ports.old) (P.rooms ports.old) (P.waiting ports.old))
-            (known (P.knowns ports.new) (P.rooms ports.new) (P.waiting ports.new)) }
-        ensures ended { EndedOnly merge_does self.old result self.new (P.waiting ports.new) }
-        ensures link { P.link ports.new ≡ P.link ports.old }
+        ensures { StepsOnce merge_does P.Ports self.old ports.old result self.new ports.new }
     {
         match take_any(&self.live, self.next, ports) {
             None => Step::Waits,
@@ -105,16 +92,9 @@ impl Merge {
     fn finish<P: Ports<Record>>(&mut self, ports: &mut P) -> Step
         requires held { self.old.held ≡ [] }
         requires live { any_live self.old.live ≡ false }
-        ensures one { One merge_does self.old (P.gots ports.old) (P.puts ports.old)
-            result self.new (P.gots ports.new) (P.puts ports.new) }
-        ensures waits { WaitsOnly merge_does self.old result
-            (known (P.knowns ports.old) (P.rooms ports.old) (P.waiting ports.old))
-            (known (P.knowns ports.new) (P.rooms ports.new) (P.waiting ports.new)) }
-        ensures ended { EndedOnly merge_does self.old result self.new (P.waiting ports.new) }
+        ensures once { StepsOnce merge_does P.Ports self.old ports.old result self.new ports.new }
         ensures again { self.old.done ≡ true
-            → StaysAt self.old (P.gots ports.old) (P.puts ports.old)
-            self.new (P.gots ports.new) (P.puts ports.new) }
-        ensures link { P.link ports.new ≡ P.link ports.old }
+            → StaysAt P.Ports self.old ports.old self.new ports.new }
     {
         if self.done || ports.flush() {
             self.done = true;

@@ -3,7 +3,7 @@ ghost use Rattle.std.specs.Prelude.{◌≡◌, [], true, false, Some, None, leng
 ghost use Rattle.ff_unit.specs.StagePorts.{StageReady};
 ghost use Rattle.ff_unit.specs.StageSteps.{behind_of};
 ghost use Rattle.ff_unit.specs.StageUnit.{runner_does, stage_does};
-ghost use Rattle.ff_unit.specs.Units.{known, One, WaitsOnly, EndedOnly, StaysAt};
+ghost use Rattle.ff_unit.specs.Units.{StepsOnce, StaysAt};
 
 use super::NodeRunner;
 use super::held::{drop_sends, take_held};
@@ -18,18 +18,10 @@ impl<N: Node> NodeRunner<N> {
     #[inline(always)]
     pub fn step<P: Ports<Record>>(&mut self, marks: bool, ports: &mut P) -> Step
         requires { StageReady self.old (P.gots ports.old) (P.puts ports.old) }
-        ensures one { One (runner_does N.does (behind_of marks))
-            self.old (P.gots ports.old) (P.puts ports.old)
-            result self.new (P.gots ports.new) (P.puts ports.new) }
-        ensures waits { WaitsOnly (stage_does N.does) self.old result
-            (known (P.knowns ports.old) (P.rooms ports.old) (P.waiting ports.old))
-            (known (P.knowns ports.new) (P.rooms ports.new) (P.waiting ports.new)) }
-        ensures ended { EndedOnly (stage_does N.does) self.old result
-            self.new (P.waiting ports.new) }
+        ensures once { StepsOnce (runner_does N.does (behind_of marks)) P.Ports self.old ports.old
+            result self.new ports.new }
         ensures again { self.old.done ≡ true
-            → StaysAt self.old (P.gots ports.old) (P.puts ports.old)
-            self.new (P.gots ports.new) (P.puts ports.new) }
-        ensures link { P.link ports.new ≡ P.link ports.old }
+            → StaysAt P.Ports self.old ports.old self.new ports.new }
     {
         match take_held(&mut self.front, &mut self.sends, &mut self.back) {
             None => self.go_on(marks, ports),
@@ -56,18 +48,10 @@ impl<N: Node> NodeRunner<N> {
         requires held { self.old.held ≡ [] }
         requires one_in { length (P.gots ports.old) ≡ 1 }
         requires done { self.old.done ≡ true → IsSome self.old.fin }
-        ensures one { One (runner_does N.does (behind_of marks))
-            self.old (P.gots ports.old) (P.puts ports.old)
-            result self.new (P.gots ports.new) (P.puts ports.new) }
-        ensures waits { WaitsOnly (stage_does N.does) self.old result
-            (known (P.knowns ports.old) (P.rooms ports.old) (P.waiting ports.old))
-            (known (P.knowns ports.new) (P.rooms ports.new) (P.waiting ports.new)) }
-        ensures ended { EndedOnly (stage_does N.does) self.old result
-            self.new (P.waiting ports.new) }
+        ensures once { StepsOnce (runner_does N.does (behind_of marks)) P.Ports self.old ports.old
+            result self.new ports.new }
         ensures again { self.old.done ≡ true
-            → StaysAt self.old (P.gots ports.old) (P.puts ports.old)
-            self.new (P.gots ports.new) (P.puts ports.new) }
-        ensures link { P.link ports.new ≡ P.link ports.old }
+            → StaysAt P.Ports self.old ports.old self.new ports.new }
     {
         match self.fin {
             None => self.take_one(marks, ports),
@@ -82,15 +66,8 @@ impl<N: Node> NodeRunner<N> {
         requires held { self.old.held ≡ [] }
         requires fin { self.old.fin ≡ None }
         requires one_in { length (P.gots ports.old) ≡ 1 }
-        ensures one { One (runner_does N.does (behind_of marks))
-            self.old (P.gots ports.old) (P.puts ports.old)
-            result self.new (P.gots ports.new) (P.puts ports.new) }
-        ensures waits { WaitsOnly (stage_does N.does) self.old result
-            (known (P.knowns ports.old) (P.rooms ports.old) (P.waiting ports.old))
-            (known (P.knowns ports.new) (P.rooms ports.new) (P.waiting ports.new)) }
-        ensures ended { EndedOnly (stage_does N.does) self.old result
-            self.new (P.waiting ports.new) }
-        ensures link { P.link ports.new ≡ P.link ports.old }
+        ensures { StepsOnce (runner_does N.does (behind_of marks)) P.Ports self.old ports.old
+            result self.new ports.new }
     {
         match ports.try_take(0) {
             None => Step::Waits,
@@ -106,14 +83,8 @@ impl<N: Node> NodeRunner<N> {
         requires held { self.old.held ≡ [] }
         requires fin_is { self.old.fin ≡ Some fin }
         requires goes_on { self.old.done ≡ false }
-        ensures one { One (stage_does N.does) self.old (P.gots ports.old) (P.puts ports.old)
-            result self.new (P.gots ports.new) (P.puts ports.new) }
-        ensures waits { WaitsOnly (stage_does N.does) self.old result
-            (known (P.knowns ports.old) (P.rooms ports.old) (P.waiting ports.old))
-            (known (P.knowns ports.new) (P.rooms ports.new) (P.waiting ports.new)) }
-        ensures ended { EndedOnly (stage_does N.does) self.old result
-            self.new (P.waiting ports.new) }
-        ensures link { P.link ports.new ≡ P.link ports.old }
+        ensures { StepsOnce (stage_does N.does) P.Ports self.old ports.old
+            result self.new ports.new }
     {
         if ports.flush() {
             self.done = true;

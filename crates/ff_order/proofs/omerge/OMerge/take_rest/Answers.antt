@@ -1,6 +1,6 @@
 use Rattle.std.proofs.Common.{◌≡◌, ℕ, refl, ap, subst}
-use Rattle.ff_node.specs.Runs.{Took}
 use Rattle.ff_unit.specs.Closing.{IsLive}
+use Rattle.ff_unit.specs.StepLaws.{StepsOnce-took}
 use Rattle.ff_unit.specs.declared.mode.Mode.{Mode}
 use Rattle.ff_unit.specs.declared.mode.Mode.TheVariants.{Live, Shut, Cut}
 use Rattle.ff_order.specs.OMerges.{IsDue}
@@ -12,16 +12,11 @@ IsDue-rest Live due k rest = absurd (rest refl)
 IsDue-rest Shut due k rest = tt
 IsDue-rest Cut due k rest = tt
 
-pub returns-in-Some-clause-one : goal.returns-in-Some-clause-one
-returns-in-Some-clause-one g c = record {
-  act = Took c.in-Some.k c.in-Some.m;
-  steps = (
-    c.requires.held,
-    subst (λ live. IsLive live c.in-Some.k) (ap (λ u. u.live) c.self.view_is) c.in-Some.ensures.takes.0,
-    IsDue-rest c.args.self.now.mode c.args.self.now.due c.in-Some.k c.requires.rest,
-    c.receive.ensures,
-  );
-  takes = c.in-Some.ensures.takes.1;
-  gives = c.in-Some.ensures.puts;
-  answers = refl;
-}
+pub returns-in-Some : goal.returns-in-Some
+returns-in-Some g c =
+    StepsOnce-took c.in-Some.k c.in-Some.m c.in-Some.ensures.link c.in-Some.ensures.takes.1 c.in-Some.ensures.puts (
+      c.requires.held,
+      subst (λ live. IsLive live c.in-Some.k) (ap (λ u. u.live) c.self.view_is) c.in-Some.ensures.takes.0,
+      IsDue-rest c.args.self.now.mode c.args.self.now.due c.in-Some.k c.requires.rest,
+      c.receive.ensures,
+    )

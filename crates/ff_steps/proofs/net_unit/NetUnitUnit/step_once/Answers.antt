@@ -40,8 +40,8 @@ step_once-requires-in-Worker g c =
     subst (λ (u : NetState g.row.N.Denot). (net_does g.N.Node.does).Ready u (g.P.Ports.gots c.args.ports.now) (g.P.Ports.puts c.args.ports.now))
     (sym c.self.view_is ∙ ap state_of c.in-Worker.is) c.requires
 
-pub returns-clause-one : goal.returns-clause-one
-returns-clause-one g c = elim c.match-self.branch [
+pub returns-clause-once : goal.returns-clause-once
+returns-clause-once g c = elim c.match-self.branch [
   | in-Stage w ↦ search rules
   | in-Deal w ↦ search rules
   | in-ODeal w ↦ search rules

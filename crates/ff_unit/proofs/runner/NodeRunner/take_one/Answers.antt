@@ -1,12 +1,7 @@
 use Rattle.std.proofs.Common.{refl}
-use Rattle.ff_node.specs.Runs.{Took}
+use Rattle.ff_unit.specs.StepLaws.{StepsOnce-took}
 use Rattle.ff_unit.proofs.runner.NodeRunner.take_one.Goals as goal
 
-pub returns-in-Some-clause-one : goal.returns-in-Some-clause-one
-returns-in-Some-clause-one g c = record {
-  act = Took 0 c.in-Some.m;
-  steps = (refl, c.requires.held, c.requires.fin, c.receive.ensures);
-  takes = c.in-Some.ensures.takes;
-  gives = c.in-Some.ensures.puts;
-  answers = refl;
-}
+pub returns-in-Some : goal.returns-in-Some
+returns-in-Some g c =
+    StepsOnce-took 0 c.in-Some.m c.in-Some.ensures.link c.in-Some.ensures.takes c.in-Some.ensures.puts (refl, c.requires.held, c.requires.fin, c.receive.ensures)
