@@ -5,7 +5,6 @@ mod narrow;
 mod schedules;
 mod seen;
 mod sieve;
-mod stages;
 mod units;
 mod wrap_nets;
 mod wraps;

@@ -160,21 +160,19 @@ fn shows(r: Option<&Record>, line: &[u8]) -> bool {
     }
 }
 
-// The records that are kept, beside their number.
-#[test]
-fn rejected_records_are_kept(rt: HostRuntime) -> Result<(), Fail> {
-    let report = rejects(&rt, rt.alloc(), true)?;
-    assert_eq!(rt; report.rejected, 2);
-    assert_eq!(rt; report.kept.len(), 2);
-    assert!(rt; shows(report.kept.get(0), b"a\tb"));
-    assert!(rt; shows(report.kept.get(1), b"c\t"));
-    Ok(())
+// Two records are counted, and they are kept only where that is asked for.
+fn expect_rejects(rt: &impl Abort, report: &Report, keep: bool) {
+    let kept = if keep { 2 } else { 0 };
+    assert_eq!(rt; (report.rejected, report.kept.len()), (2, kept));
+    assert_eq!(rt; shows(report.kept.get(0), b"a\tb"), keep);
+    assert_eq!(rt; shows(report.kept.get(1), b"c\t"), keep);
 }
 
 #[test]
-fn rejected_records_are_only_counted(rt: HostRuntime) -> Result<(), Fail> {
-    let report = rejects(&rt, rt.alloc(), false)?;
-    assert_eq!(rt; report.rejected, 2);
-    assert_eq!(rt; report.kept.len(), 0);
+fn rejected_records_are_counted(rt: HostRuntime) -> Result<(), Fail> {
+    for keep in [true, false] {
+        let report = rejects(&rt, rt.alloc(), keep)?;
+        expect_rejects(&rt, &report, keep);
+    }
     Ok(())
 }

@@ -19,7 +19,6 @@ mod flowing;
 mod limits;
 mod networks;
 mod operations;
-mod rec_calls;
 mod rejects;
 mod texts;
 mod threads;

@@ -140,6 +140,7 @@ fn widest(alloc: Global, field: &Field) -> Result<Record, Fail> {
 fn expect_full(rt: &impl Abort, r: &mut Record, field: &Field) {
     expect_len(rt, r, MOST_FIELDS);
     assert_eq!(rt; r.push(field), Err(PushFault::Full));
+    assert_eq!(rt; r.push_first(field), Err(PushFault::Full));
     expect_len(rt, r, MOST_FIELDS);
     expect_field(rt, r, MOST_FIELDS, Some(b"f"));
 }

@@ -19,7 +19,7 @@ const OUTPUT_BYTES: &[u8] = b"\n\n\n\n\naabcd";
 const REJECT_BYTES: &[u8] = b"\n\nabdeorsw";
 
 // Networks of copies of one node.
-#[derive(Clone, Copy, Debug, PartialEq, Eq)]
+#[derive(Clone, Copy, Debug)]
 enum Form {
     Farm(Sched),
     OFarm(Sched),
@@ -126,31 +126,16 @@ fn all_run(rt: &impl Abort, alloc: Global, form: Form) -> Result<(), Fail> {
 }
 
 #[test]
-fn a_farm_in_turn(rt: HostRuntime) -> Result<(), Fail> {
-    all_run(&rt, rt.alloc(), Form::Farm(Sched::Rr))
-}
-
-#[test]
-fn a_farm_on_demand(rt: HostRuntime) -> Result<(), Fail> {
-    all_run(&rt, rt.alloc(), Form::Farm(Sched::Od))
-}
-
-#[test]
-fn an_ordered_farm_in_turn(rt: HostRuntime) -> Result<(), Fail> {
-    all_run(&rt, rt.alloc(), Form::OFarm(Sched::Rr))
-}
-
-#[test]
-fn an_ordered_farm_on_demand(rt: HostRuntime) -> Result<(), Fail> {
-    all_run(&rt, rt.alloc(), Form::OFarm(Sched::Od))
-}
-
-#[test]
-fn an_all_to_all_in_turn(rt: HostRuntime) -> Result<(), Fail> {
-    all_run(&rt, rt.alloc(), Form::A2a(Route::Rr))
-}
-
-#[test]
-fn an_all_to_all_by_key(rt: HostRuntime) -> Result<(), Fail> {
-    all_run(&rt, rt.alloc(), Form::A2a(Route::By(1)))
+fn copies_of_a_node_give_the_answer(rt: HostRuntime) -> Result<(), Fail> {
+    for form in [
+        Form::Farm(Sched::Rr),
+        Form::Farm(Sched::Od),
+        Form::OFarm(Sched::Rr),
+        Form::OFarm(Sched::Od),
+        Form::A2a(Route::Rr),
+        Form::A2a(Route::By(1)),
+    ] {
+        all_run(&rt, rt.alloc(), form)?;
+    }
+    Ok(())
 }

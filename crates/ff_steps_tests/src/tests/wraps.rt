@@ -97,24 +97,18 @@ fn all_end(rt: &impl Abort, alloc: Global, form: Form, limit: u64) -> Result<(),
     Ok(())
 }
 
+// A wrap of one worker, one of three at its limit and past it, and one between two nodes.
 #[test]
-fn a_wrap_of_one_worker(rt: HostRuntime) -> Result<(), Fail> {
-    all_end(&rt, rt.alloc(), Form::Alone(1), 1000)
-}
-
-#[test]
-fn a_wrap_of_three_at_its_limit(rt: HostRuntime) -> Result<(), Fail> {
-    all_end(&rt, rt.alloc(), Form::Alone(3), TASKS)
-}
-
-#[test]
-fn a_wrap_of_three_past_its_limit(rt: HostRuntime) -> Result<(), Fail> {
-    all_end(&rt, rt.alloc(), Form::Alone(3), TASKS - 1)
-}
-
-#[test]
-fn a_wrap_between_two_nodes(rt: HostRuntime) -> Result<(), Fail> {
-    all_end(&rt, rt.alloc(), Form::Between, TASKS + 1)
+fn wraps_give_the_answer(rt: HostRuntime) -> Result<(), Fail> {
+    for (form, limit) in [
+        (Form::Alone(1), 1000),
+        (Form::Alone(3), TASKS),
+        (Form::Alone(3), TASKS - 1),
+        (Form::Between, TASKS + 1),
+    ] {
+        all_end(&rt, rt.alloc(), form, limit)?;
+    }
+    Ok(())
 }
 
 // Where a node before the wrap or a worker gives up, Abort goes on to all, and all end.

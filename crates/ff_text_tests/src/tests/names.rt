@@ -135,16 +135,3 @@ fn words_stand_for_networks(rt: HostRuntime) -> Result<(), Fail> {
     }
     Ok(())
 }
-
-// Texts of version One.
-const NO_NAMES: &str = r#"
-w | 0 UnknownName
-pipe(id; id) | 7 BadByte
-; id | 0 BadByte
-"#;
-
-#[test]
-fn no_word_stands_for_a_network(rt: HostRuntime) -> Result<(), Fail> {
-    let context = Context::new(rt.alloc(), Version::One);
-    check_table(&rt, rt.alloc(), &context, 15, NO_NAMES)
-}

@@ -32,6 +32,9 @@ if 1 5 5 | 5 BadToken
 if 1 ! 5 | 5 BadByte
 id id | 3 BadToken
 id; id | 2 BadByte
+pipe(id; id) | 7 BadByte
+; id | 0 BadByte
+w | 0 UnknownName
 id ) | 3 BadToken
 pipe | 4 End
 pipe() | 5 BadToken
@@ -93,7 +96,7 @@ fn text_faults(rt: HostRuntime) -> Result<(), Fail> {
             tried = tried.saturating_add(1);
         }
     }
-    assert_eq!(&rt; tried, 60);
+    assert_eq!(&rt; tried, 63);
     Ok(())
 }
 

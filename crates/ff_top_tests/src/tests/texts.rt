@@ -1,8 +1,7 @@
 // Texts in words and in files: printed forms, and what is said of texts that are no network's.
-use super::{Answer, Host, SOUND, Setting, call, check_case, check_table, check_twice};
-use crate::tests::cases::{Case, case_of, is_call, text_of, words_of};
+use super::{Host, SOUND, Setting, check_case, check_table, check_twice};
+use crate::tests::cases::{Case, case_of, is_call, text_of};
 use std::alloc::Global;
-use std::process::Abort;
 use std::test::Fail;
 
 // Texts with their printed forms.
@@ -181,27 +180,4 @@ fn texts_of_files(rt: HostRuntime) -> Result<(), Fail> {
     // A text may have 65,536 bytes.
     check_file(&rt, alloc, FULL_FILES, "\\[65534  ]id", SOUND)?;
     check_file(&rt, alloc, LONG_FILES, "\\[65534  ]id ", SOUND)
-}
-
-// Runs what stands in a file.
-fn run_file<R: Host>(rt: &R, alloc: Global, file: &[u8]) -> Result<Answer, Fail> {
-    let words = words_of(alloc, case_of(FULL_FILES)?)?;
-    call(rt, alloc, &words, b"1\n", Setting { file, ..UNREAD })
-}
-
-// Each prefix may go on, so that its end is what is told, but for one that ends within a word.
-fn expect_refused(rt: &impl Abort, answer: &Answer, len: usize) {
-    let place = answer.err.taken().starts_with(b"ffrun: byte ");
-    let refused = answer.status == 2 && answer.out.taken().is_empty() && place;
-    assert!(rt; refused, "{len} bytes");
-}
-
-#[test]
-fn each_proper_prefix_is_refused(rt: HostRuntime) -> Result<(), Fail> {
-    let text = b"pipe(add 1 5, farm 2 rr (id))";
-    for len in 0..text.len() {
-        let answer = run_file(&rt, rt.alloc(), &text[..len])?;
-        expect_refused(&rt, &answer, len);
-    }
-    Ok(())
 }
