@@ -1,5 +1,6 @@
 // What no clause says: that memory is there, so that each call does its work.
 mod comb;
+mod rec_calls;
 
 use ff_node::Sends;
 use ff_rec::{Field, Kept, Record};
