@@ -5,6 +5,7 @@ mod narrow;
 mod schedules;
 mod seen;
 mod sieve;
+mod stages;
 mod units;
 mod wrap_nets;
 mod wraps;
