@@ -13,16 +13,8 @@ use Rattle.ff_stream.specs.declared.fault.Halt.TheVariants.{Write, NoMemory}
 use Rattle.ff_unit.specs.MessageLaws.{items-append}
 use Rattle.ff_engine.specs.Callers.{CallerState, Moves, Breaks, SameRings, GoesOn, TakesMore, Receives, Feeds}
 
--- the rings stay over two stretches
-pub SameRings-refl : (c : CallerState) → SameRings c c
-SameRings-refl c = record { writes = refl; reads = refl; holds = refl }
-
 pub SameRings-trans : (c d e : CallerState) → SameRings c d → SameRings d e → SameRings c e
 SameRings-trans c d e first second = record { writes = second.writes ∙ first.writes; reads = second.reads ∙ first.reads; holds = second.holds ∙ first.holds }
-
--- more was taken over two stretches
-pub TakesMore-refl : (c : CallerState) → TakesMore c c
-TakesMore-refl c = record { more = []; is = sym (append-nil c.got) }
 
 pub TakesMore-trans : (c d e : CallerState) → TakesMore c d → TakesMore d e → TakesMore c e
 TakesMore-trans c d e first second = record {

@@ -1,5 +1,5 @@
 -- A node over a list: a record more, and the end.
-use Rattle.std.proofs.Common.{◌≡◌, true, false, List, [], ◌∷◌, ◌++◌, sym, ap, ◌∙◌, append-nil}
+use Rattle.std.proofs.Common.{◌≡◌, true, false, List, [], ◌∷◌, sym, ap, ◌∙◌, append-nil}
 use Rattle.ff_rec.specs.Lines.{Rec}
 use Rattle.ff_node.specs.Behaviour.{Behaviour, sent_from, rejected_from, node, node_rejected, pipeline_rejected}
 use Rattle.ff_node.specs.Sends.{Sent, add}
@@ -10,10 +10,6 @@ use Rattle.ff_node.proofs.SendsLaws.{add-add}
 pub add-taken : (out : Sent) (sends rejects : List Rec) → out.sends ≡ [] → ◌≡◌ {A = Sent} (record (add out sends rejects) { sends = [] }) (add out [] rejects)
 add-taken out sends rejects empty =
     ap (λ (l : List Rec). record (add out sends rejects) { sends = l }) (sym (append-nil out.sends ∙ empty))
-
--- what was sent is then what was added
-pub sends-added : (out : Sent) (sends rejects : List Rec) → out.sends ≡ [] → (add out sends rejects).sends ≡ sends
-sends-added out sends rejects empty = ap (λ l. l ++ sends) empty
 
 -- and rejects alone leave nothing sent
 pub empty-added : (out after : Sent) (rejects : List Rec) → out.sends ≡ [] → after ≡ add out [] rejects → after.sends ≡ []

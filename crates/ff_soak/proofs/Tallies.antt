@@ -1,23 +1,13 @@
 -- The records of a text, line by line.
-use Rattle.std.proofs.Common.{◌≡◌, ℕ, ◌+◌, ◌*◌, ◌^◌, ◌<◌, ◌≤◌, List, [], ◌∷◌, ◌++◌, length, refl, ap, ◌∙◌, subst, arith}
+use Rattle.std.proofs.Common.{◌≡◌, ℕ, ◌+◌, ◌*◌, ◌^◌, ◌≤◌, List, ◌∷◌, ◌++◌, length, ap, ◌∙◌}
 use Rattle.ff_rec.specs.Lines.{cut, records}
 use Rattle.ff_rec.specs.Pieces.{Lacks}
-use Rattle.ff_rec.specs.Reading.{last_given}
-use Rattle.ff_rec.proofs.WholeLines.{records-newline, records-Lacks}
+use Rattle.ff_rec.proofs.WholeLines.{records-newline}
 use Rattle.ff_ops.specs.FoldSums.{sum_above, sum_below}
 
 -- a line and its newline
 pub records-next : (bytes line behind : List ℕ) → bytes ≡ line ++ 10 ∷ behind → Lacks 10 line → records bytes ≡ cut 9 line ∷ records behind
 records-next bytes line behind whole clean = ap records whole ∙ records-newline line behind clean
-
-last_given-some : (line : List ℕ) → 0 < length line → last_given line ≡ cut 9 line ∷ []
-last_given-some [] some = absurd (omega arith)
-last_given-some (c ∷ cs) some = refl
-
--- a last line
-pub records-last : (bytes line : List ℕ) → bytes ≡ line → Lacks 10 line → 0 < length bytes → records bytes ≡ cut 9 line ∷ records []
-records-last bytes line whole clean some =
-    ap records whole ∙ records-Lacks line clean ∙ last_given-some line (subst (λ (bs : List ℕ). 0 < length bs) whole some)
 
 -- what was counted of the lines before the rest of a text
 pub record HasTallied (bytes rest : List ℕ) (keys plus minus : ℕ) : Type 0 where

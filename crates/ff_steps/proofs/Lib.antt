@@ -1,7 +1,6 @@
 pub mod Rests
 pub mod RowEnds
 pub mod Moving
-pub mod UnitMoving
 pub mod StepsOn
 pub mod PartyAt
 pub mod PartyRuns

@@ -4,27 +4,17 @@ use Rattle.std.specs.Prelude.{Option}
 use Rattle.std.specs.Io.KnownBytes.{Appends, Consumes, Keeps}
 use Rattle.std.proofs.KnownBytes.{Appends-nil, Appends-trans, Consumes-nil, Keeps-trans}
 use Rattle.ff_rec.specs.Lines.{Rec}
-use Rattle.ff_stream.specs.Endings.{Begun, CountsInput, IsCutShort, IsReadOut, Ran, Told, halted, records_of, stop_count}
+use Rattle.ff_stream.specs.Endings.{Begun, IsCutShort, IsReadOut, Ran, Told, halted, records_of, stop_count}
 use Rattle.ff_stream.specs.Jobs.{Job}
 use Rattle.ff_stream.specs.Streams.{Streams}
 use Rattle.ff_stream.specs.Takings.{IsTaken, IsHalted}
 use Rattle.ff_stream.specs.Works.{Ends, IsOpen}
 use Rattle.ff_stream.specs.declared.ending.Report.{Report}
 use Rattle.ff_stream.specs.declared.ending.Stop.{Stop}
-use Rattle.ff_stream.specs.declared.ending.Stop.TheVariants.{End, Read, Line}
 use Rattle.ff_stream.specs.declared.fault.Halt.{Halt}
 use Rattle.ff_stream.specs.declared.fault.Halt.TheVariants.{Write, NoMemory}
 use Rattle.ff_stream.specs.declared.fault.RunFault.{RunFault}
 use Rattle.ff_stream.specs.declared.fault.RunFault.TheVariants.{Tasks, Write as WriteFault, NoMemory as NoMemoryFault}
-
--- the counts of the input's faults
-pub CountsInput-quiet : (fault : RunFault) (before now : ℕ) → now ≡ before → CountsInput before now (Err fault)
-CountsInput-quiet fault before now is = inl is
-
-pub CountsInput-stopped : (stop : Stop) (fault : RunFault) (before now : ℕ) → now ≡ stop_count before stop → CountsInput before now (Err fault)
-CountsInput-stopped End fault before now is = inl is
-CountsInput-stopped Read fault before now is = inr is
-CountsInput-stopped (Line passed) fault before now is = inl is
 
 -- nothing was written
 Keeps-nothing : (t u : Option (List ℕ)) (put : List ℕ) → Appends t u put → put ≡ [] → Keeps t u

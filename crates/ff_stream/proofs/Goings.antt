@@ -4,7 +4,6 @@ use Rattle.std.specs.Prelude.{Option}
 use Rattle.std.specs.Io.KnownBytes.{Appends}
 use Rattle.std.proofs.KnownBytes.{Appends-nil, Appends-trans}
 use Rattle.ff_rec.specs.Lines.{Rec}
-use Rattle.ff_stream.specs.Endings.{Begun}
 use Rattle.ff_stream.specs.Jobs.{Job}
 use Rattle.ff_stream.specs.Works.{Goes, IsOpen, Left, Halts, Drops}
 use Rattle.ff_stream.specs.declared.fault.Halt.{Halt}

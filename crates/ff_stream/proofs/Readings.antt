@@ -1,5 +1,5 @@
 -- How far a source was read, and what came of it.
-use Rattle.std.proofs.Common.{◌≡◌, ℕ, ◌+◌, ◌≤◌, List, [], ◌∷◌, ◌++◌, length, append_assoc, refl, sym, ap, ◌∙◌, append-nil, subst, take, drop, take-append-drop, None, Some, arith}
+use Rattle.std.proofs.Common.{◌≡◌, ℕ, ◌+◌, ◌≤◌, List, [], ◌∷◌, ◌++◌, length, append_assoc, refl, sym, ap, ◌∙◌, append-nil, subst, take, drop, take-append-drop, None, Some}
 use Rattle.std.specs.Prelude.{Option}
 use Rattle.std.specs.Io.KnownBytes.{Consumes, Keeps}
 use Rattle.std.proofs.KnownBytes.{Consumes-nil, Consumes-trans, Consumes-kept}
@@ -58,16 +58,6 @@ HasTaken-stopped r s next got piece part behind fault splits reader took = recor
   refusal = took.refusal;
   taken = λ none. none-some fault (Some fault) refl none;
   room = λ none. none-some fault (Some fault) refl none;
-}
-
--- nothing more was to be read of it
-pub HasTaken-whole : (r s : Reading) (got piece rest : List ℕ) → piece ≡ got ++ rest → rest ≡ [] → s ≡ after r got → s.fault ≡ None
-    → s.taken + length rest ≡ r.taken + length piece → s.taken ≤ r.input_limit → HasTaken r s piece None
-HasTaken-whole r s got piece rest splits empty reader going count room = record {
-  state = reader ∙ ap (after r) (sym (splits ∙ ap (λ l. got ++ l) empty ∙ append-nil got));
-  refusal = going;
-  taken = λ none. omega (arith, count, ap length empty);
-  room = λ none. room;
 }
 
 module _ {N W : Type 0} (stands : Job N → W → List Rec → List ℕ → Type 0) where

@@ -23,10 +23,6 @@ Writes-record xs ys zs r held more rest t t' t'' so_far first printed written = 
       ∙ sym (append_assoc so_far.put written.put (rest ++ text zs));
 }
 
--- one that can't be held
-pub WritesSome-writes : (bytes rest : List ℕ) (t u : Option (List ℕ)) → Writes bytes rest t u → WritesSome bytes t u
-WritesSome-writes bytes rest t u so_far = record { put = so_far.put; taken = so_far.taken; back = rest; splits = so_far.splits }
-
 -- one at which a write broke off
 pub WritesSome-record : (xs ys zs : List Rec) (r : Rec) (held more : List ℕ) (t t' t'' : Option (List ℕ)) → Writes (text xs) (held ++ text ys) t t' → ys ≡ r ∷ zs
     → more ≡ held ++ line_of r → WritesSome more t' t'' → WritesSome (text xs) t t''

@@ -1,5 +1,5 @@
 -- What is eaten from its first token on, and behind a part.
-use Rattle.std.proofs.Common.{◌≡◌, ℕ, zero, suc, ◌-◌, Bool, true, false, List, [], ◌∷◌, ◌++◌, None, Some, Result, Ok, Err, refl, sym, ap, subst, ◌∙◌, arith}
+use Rattle.std.proofs.Common.{◌≡◌, ℕ, zero, suc, ◌-◌, Bool, true, false, List, [], ◌∷◌, ◌++◌, Some, Result, Ok, Err, refl, sym, ap, subst, ◌∙◌, arith}
 use Rattle.ff_ops.specs.Table.{row_named}
 use Rattle.ff_text.specs.declared.fault.ReadFault.{ReadFault}
 use Rattle.ff_text.specs.declared.fault.ReadFault.TheVariants.{Text, TooLong, NoMemory}
@@ -7,10 +7,9 @@ use Rattle.ff_text.specs.declared.form.Form.{Form}
 use Rattle.ff_text.specs.Tokens.{Word, PlacedToken}
 use Rattle.ff_text.specs.Grammar.{form_named}
 use Rattle.ff_text.specs.Names.{Context, net_named}
-use Rattle.ff_text.specs.Wants.{Want, Network, Parts, rest_of, begin_word, begin_use, expand, pushed, then_walk, walk}
-use Rattle.ff_text.specs.Reading.{IsEaten, IsAnother, IsBegun}
+use Rattle.ff_text.specs.Wants.{Want, Network, Parts, rest_of, begin_word, expand, pushed, then_walk, walk}
+use Rattle.ff_text.specs.Reading.{IsEaten, IsAnother}
 use Rattle.ff_text.proofs.Parts.{left}
-use Rattle.ff_text.proofs.Uses.{expand-use}
 
 -- behind a token that is taken
 eaten-front : {A : Type 0} (c : Context) (r : Result A ReadFault) (w : Want) (us : List Want) (s : PlacedToken) (mid new : List PlacedToken) → expand c w s.token ≡ Ok us
@@ -32,20 +31,6 @@ pub eaten-form : {A : Type 0} (c : Context) (r : Result A ReadFault) (old mid ne
 eaten-form c r old mid new at name f room front named some h =
     subst (λ spots. IsEaten c (Network room ∷ []) r spots new) (sym front)
     (eaten-front c r (Network room) (rest_of (room - 1) f) (record { token = Word name; at = at }) mid new (expand-form c name f room named some) h)
-
--- a word that is no form's and no operation's
-eaten-begun : {A : Type 0} (c : Context) (r : Result A ReadFault) (w : Want) (s : PlacedToken) (new : List PlacedToken) → IsBegun (expand c w s.token) s.at r → IsEaten c (w ∷ []) r (s ∷ new) new
-eaten-begun c (Ok x) w s new h = λ ws. ap (λ q. then_walk s.at (walk c new) (pushed q ws)) h
-eaten-begun c (Err (Text at kind)) w s new h =
-    λ ws. ap (λ q. then_walk s.at (walk c new) (pushed q ws)) h.1 ∙ ap (λ n. Err (record { at = n; kind = kind })) (sym h.0)
-eaten-begun c (Err TooLong) w s new h = h
-eaten-begun c (Err NoMemory) w s new h = tt
-
-pub eaten-use : {A : Type 0} (c : Context) (r : Result A ReadFault) (old new : List PlacedToken) (at : ℕ) (name : List ℕ) (room : ℕ) → old ≡ record { token = Word name; at = at } ∷ new
-    → form_named name ≡ None → row_named name ≡ None → IsBegun (begin_use (net_named c.names name) room) at r → IsEaten c (Network room ∷ []) r old new
-eaten-use c r old new at name room front form row h =
-    subst (λ spots. IsEaten c (Network room ∷ []) r spots new) (sym front)
-    (eaten-begun c r (Network room) (record { token = Word name; at = at }) new (subst (λ b. IsBegun b at r) (sym (expand-use c name room form row)) h))
 
 -- a part and what follows it
 pub eaten-another : (c : Context) (room : ℕ) (more : Bool) (old new : List PlacedToken) → IsAnother c room (Ok more) old new → (ws : List Want) → walk c old (Parts room ∷ ws) ≡ walk c new (left more room ++ ws)

@@ -15,14 +15,6 @@ pub form_word-form_named : (name : List ℕ) (form : Form) → form_named name �
 form_word-form_named name form e =
     (bytes_decides (form_word form) name).0 (find-test (λ f. same_bytes (form_word f) name) FORMS form e)
 
-pub form_named-form_word : (form : Form) → form_named (form_word form) ≡ Some form
-form_named-form_word Pipe = refl
-form_named-form_word Comb = refl
-form_named-form_word Farm = refl
-form_named-form_word OFarm = refl
-form_named-form_word A2a = refl
-form_named-form_word Wrap = refl
-
 row_named-form_word : (form : Form) → row_named (form_word form) ≡ None
 row_named-form_word Pipe = refl
 row_named-form_word Comb = refl

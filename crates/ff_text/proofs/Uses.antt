@@ -1,6 +1,6 @@
 -- Words that stand for networks.
-use Rattle.std.proofs.Common.{◌≡◌, ℕ, suc, ◌<◌, ◌≤◌, Bool, true, false, cond, List, [], ◌∷◌, ◌++◌, Option, None, Some, Ok, Err, refl, ap, subst, ◌∙◌, arith, inl}
-use Rattle.std.proofs.lemmas.Bool.{cond-true, cond-false, leb-true}
+use Rattle.std.proofs.Common.{◌≡◌, ℕ, suc, ◌≤◌, Bool, true, false, cond, List, [], ◌∷◌, ◌++◌, Option, None, Some, Ok, Err, refl, ap, subst, ◌∙◌, arith, inl}
+use Rattle.std.proofs.lemmas.Bool.{leb-true}
 use Rattle.std.specs.Prelude.{nat_le}
 use Rattle.ff_rec.specs.Fields.{same_bytes}
 use Rattle.ff_ops.specs.Operation.{OpState}
@@ -14,13 +14,6 @@ use Rattle.ff_ops.specs.Table.{row_named}
 use Rattle.ff_text.specs.Tokens.{Token, Word}
 use Rattle.ff_text.specs.Spelling.{IsUse, Spells}
 use Rattle.ff_text.proofs.Depths.{room_is_depth}
-
--- the first name
-pub net_named-first : (n : Name) (ns : List Name) (word : List ℕ) → same_bytes n.word word ≡ true → net_named (n ∷ ns) word ≡ Some n.net
-net_named-first n ns word is = cond-true (same_bytes n.word word) (Some n.net) (net_named ns word) is
-
-pub net_named-others : (n : Name) (ns : List Name) (word : List ℕ) → same_bytes n.word word ≡ false → net_named (n ∷ ns) word ≡ net_named ns word
-net_named-others n ns word is = cond-false (same_bytes n.word word) (Some n.net) (net_named ns word) is
 
 -- one name more
 pub AreNets-push : (ns : List Name) (n : Name) → AreNets ns → IsNet n.net 15 → AreNets (ns ++ n ∷ [])
@@ -38,9 +31,6 @@ begin_use-if t room b is = ap (λ c. cond c (Ok []) (Err Deep)) is
 
 pub begin_use-room : (t : Tree OpState) (room : ℕ) (found : Option (Tree OpState)) → found ≡ Some t → depth t ≤ suc room → begin_use found room ≡ Ok []
 begin_use-room t room found is fits = ap (λ o. begin_use o room) is ∙ begin_use-if t room true (grind arith)
-
-pub begin_use-deep : (t : Tree OpState) (room : ℕ) (found : Option (Tree OpState)) → found ≡ Some t → suc room < depth t → begin_use found room ≡ Err Deep
-begin_use-deep t room found is deep = ap (λ o. begin_use o room) is ∙ begin_use-if t room false (grind arith)
 
 -- what can be spelled at all is shallow
 pub depth-net : (t : Tree OpState) → IsNet t 15 → depth t ≤ 16

@@ -203,11 +203,6 @@ run_low run.Refused = omega arith
 run_low (run.Tasks m) = omega arith
 run_low _ = omega arith
 
-run_late : (cause : RunCause) → 3 ≤ run_status cause
-run_late run.Refused = omega arith
-run_late (run.Tasks m) = omega arith
-run_late _ = omega arith
-
 print_low : (fault : PrintFault) → 2 ≤ print_status fault
 print_low print.Write = omega arith
 print_low print.NoMemory = omega arith
