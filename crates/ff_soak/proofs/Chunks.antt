@@ -5,12 +5,12 @@ use Rattle.ff_io.proofs.Fronts.{take-drop_whole}
 use Rattle.ff_rec.specs.Lines.{text}
 use Rattle.ff_soak.specs.Records.{records_behind}
 
--- the lines from number `made` up to `i` stand in the chunk, each of 1 to 8 bytes
-pub record HasLines (made i n : ℕ) (items : List ℕ) (len cap : ℕ) : Type 0 where
-  pub bytes : items ++ text (records_behind i (n - i)) ≡ text (records_behind made (n - made))
+-- the lines from number `made` up to `i`, each of 1 to 8 bytes, stand in the chunk behind what was left
+pub record HasLines (left : List ℕ) (few made i n : ℕ) (items : List ℕ) (len cap : ℕ) : Type 0 where
+  pub bytes : items ++ text (records_behind i (n - i)) ≡ left ++ text (records_behind made (n - made))
   pub some : i ≤ made + len
-  pub short : len ≤ 8 * (i - made)
-  pub room : 4096 ≤ cap
+  pub short : len ≤ few + 8 * (i - made)
+  pub room : 196608 ≤ cap
 
 -- nothing was given into some room only where nothing was left
 pub read-end : (items seen : List ℕ) (given room n made records : ℕ) → seen ≡ items → 0 < room

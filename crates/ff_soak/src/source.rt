@@ -14,10 +14,14 @@ use std::alloc::Global;
 use std::marker::Model;
 
 /// How many records are made at once.
-const BATCH: u64 = 512;
+const BATCH: u64 = 16_384;
 
-/// The most bytes of so many.
-const CHUNK: usize = 4096;
+/// Where fewer bytes are left, the next records are made: as many as a stream reads at once. Behind a read that gave fewer, it shows what
+/// it has and waits until all threads rest.
+const FEW: usize = 65_536;
+
+/// The most bytes that are held: fewer than `FEW`, and those of the records that are made at once.
+const CHUNK: usize = 196_608;
 
 /// A source of the first records of a soak. It makes some of them at a time, and never fails.
 #[derive(Drop)]
@@ -60,7 +64,7 @@ impl SoakSource {
     }
 }
 
-// Where all of the chunk was given, the next records are made. The answer is how many bytes of the chunk and how many
+// Where little of the chunk is left, the next records are made behind it. The answer is how many bytes of the chunk and how many
 // records are given and made then.
 fn more(chunk: &mut Vec<u8>, given: usize, made: u64, records: u64) -> (usize, u64)
     requires held { given ≤ vec_len chunk.old }
@@ -74,24 +78,25 @@ fn more(chunk: &mut Vec<u8>, given: usize, made: u64, records: u64) -> (usize, u
     ensures some { vec_len chunk.new ≤ result.0 → result.1 ≡ records }
     ensures room { CHUNK ≤ vec_capacity chunk.new }
 {
-    if given < chunk.len() {
+    if chunk.len() - given >= FEW {
         return (given, made);
     }
+    chunk.drain(..given);
     (0, refill(chunk, made, records))
 }
 
-// Makes the next records in place of those that were given, and answers how many are made then.
+// Makes the next records behind the few bytes that are left, and answers how many are made then.
 fn refill(chunk: &mut Vec<u8>, made: u64, records: u64) -> u64
     requires within { made ≤ records }
     requires few { records ≤ MOST_RECORDS }
+    requires left { vec_len chunk.old < FEW }
     requires room { CHUNK ≤ vec_capacity chunk.old }
     ensures bytes { chunk.new.items ++ text (records_behind result (records - result))
-        ≡ text (records_behind made (records - made)) }
+        ≡ chunk.old.items ++ text (records_behind made (records - made)) }
     ensures within { result ≤ records }
     ensures some { vec_len chunk.new ≡ 0 → result ≡ records }
     ensures room { CHUNK ≤ vec_capacity chunk.new }
 {
-    chunk.clear();
     let last = records.min(made + BATCH);
     for i in made..last {
         push_line(chunk, i + 1);
