@@ -1,5 +1,5 @@
 // Records that are made as they are read.
-ghost use Rattle.std.specs.Prelude.{◌≡◌, ◌-◌, ◌<◌, ◌≤◌, ◌++◌, Some, drop, length, IfOk, vec_len, vec_capacity};
+ghost use Rattle.std.specs.Prelude.{◌≡◌, ◌-◌, ◌<◌, ◌≤◌, ◌++◌, [], Some, drop, length, IfOk, vec_len, vec_capacity};
 ghost use Rattle.std.specs.Io.KnownBytes.{ReadConsumes};
 ghost use Rattle.ff_io.specs.Bytes.{is_end};
 ghost use Rattle.ff_io.specs.Faults.{HasCause, count_after};
@@ -13,15 +13,12 @@ use ff_rec::NoMemory;
 use std::alloc::Global;
 use std::marker::Model;
 
-/// How many records are made at once.
-const BATCH: u64 = 16_384;
+/// How many bytes are made at once: as many as a stream reads at once. Behind a read that gave fewer, it shows what it has and waits until
+/// all threads rest.
+const PIECE: usize = 65_536;
 
-/// Where fewer bytes are left, the next records are made: as many as a stream reads at once. Behind a read that gave fewer, it shows what
-/// it has and waits until all threads rest.
-const FEW: usize = 65_536;
-
-/// The most bytes that are held: fewer than `FEW`, and those of the records that are made at once.
-const CHUNK: usize = 196_608;
+/// The most bytes that are held: fewer than a piece, and a line.
+const CHUNK: usize = 65_544;
 
 /// A source of the first records of a soak. It makes some of them at a time, and never fails.
 #[derive(Drop)]
@@ -64,8 +61,8 @@ impl SoakSource {
     }
 }
 
-// Where little of the chunk is left, the next records are made behind it. The answer is how many bytes of the chunk and how many
-// records are given and made then.
+// Where less than a piece is left of the chunk, the next records are made behind it. The answer is how many bytes of the chunk and how
+// many records are given and made then.
 fn more(chunk: &mut Vec<u8>, given: usize, made: u64, records: u64) -> (usize, u64)
     requires held { given ≤ vec_len chunk.old }
     requires within { made ≤ records }
@@ -75,33 +72,34 @@ fn more(chunk: &mut Vec<u8>, given: usize, made: u64, records: u64) -> (usize, u
         ≡ drop given chunk.old.items ++ text (records_behind made (records - made)) }
     ensures held { result.0 ≤ vec_len chunk.new }
     ensures within { result.1 ≤ records }
-    ensures some { vec_len chunk.new ≤ result.0 → result.1 ≡ records }
+    ensures whole { vec_len chunk.new - result.0 < PIECE → result.1 ≡ records }
     ensures room { CHUNK ≤ vec_capacity chunk.new }
 {
-    if chunk.len() - given >= FEW {
+    if chunk.len() - given >= PIECE {
         return (given, made);
     }
     chunk.drain(..given);
     (0, refill(chunk, made, records))
 }
 
-// Makes the next records behind the few bytes that are left, and answers how many are made then.
+// Makes the next records behind what is left, and answers how many are made then.
 fn refill(chunk: &mut Vec<u8>, made: u64, records: u64) -> u64
     requires within { made ≤ records }
     requires few { records ≤ MOST_RECORDS }
-    requires left { vec_len chunk.old < FEW }
     requires room { CHUNK ≤ vec_capacity chunk.old }
     ensures bytes { chunk.new.items ++ text (records_behind result (records - result))
         ≡ chunk.old.items ++ text (records_behind made (records - made)) }
     ensures within { result ≤ records }
-    ensures some { vec_len chunk.new ≡ 0 → result ≡ records }
+    ensures whole { vec_len chunk.new < PIECE → result ≡ records }
     ensures room { CHUNK ≤ vec_capacity chunk.new }
 {
-    let last = records.min(made + BATCH);
-    for i in made..last {
+    for i in made..records {
+        if chunk.len() >= PIECE {
+            return i;
+        }
         push_line(chunk, i + 1);
     }
-    last
+    records
 }
 
 impl Source for SoakSource {
@@ -116,6 +114,7 @@ impl Source for SoakSource {
         ensures within { IfOk result (λ n. n ≤ length buf.new) }
         ensures bytes { ReadConsumes (Some self.old.left) (Some self.new.left) result buf.new }
         ensures ended { self.new.ended ≡ is_end result }
+        ensures whole { IfOk result (λ n. n < length buf.new → n < PIECE → self.new.left ≡ []) }
         ensures cause { HasCause 0 0 result }
         ensures counts { 0 ≡ count_after 0 result }
     {

@@ -11,7 +11,5 @@ loop-i-preserved c =
     record {
       bytes = ap (λ items. items ++ text (records_behind (i + 1) (n - (i + 1)))) c.push_line.ensures.bytes
           ∙ text-next c.loop-i.chunk.items i n (omega arith) ∙ c.loop-i.invariant.bytes;
-      some = omega arith;
-      short = omega arith;
       room = omega arith;
     }

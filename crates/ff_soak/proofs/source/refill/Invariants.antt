@@ -1,6 +1,6 @@
-use Rattle.std.proofs.Common.{vec_len, vec_capacity}
+use Rattle.std.proofs.Common.{vec_capacity}
 use Rattle.ff_soak.proofs.Chunks.{HasLines}
 use Rattle.ff_soak.proofs.source.refill.Given as goal
 
 abbrev pub invariant-loop-i : goal.invariant-loop-i
-invariant-loop-i l = HasLines l.fn.chunk.items (vec_len l.fn.chunk) l.made l.i l.records l.chunk.items (vec_len l.chunk) (vec_capacity l.chunk)
+invariant-loop-i l = HasLines l.fn.chunk.items l.made l.i l.records l.chunk.items (vec_capacity l.chunk)

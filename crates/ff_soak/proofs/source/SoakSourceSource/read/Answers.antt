@@ -2,7 +2,7 @@ use Rattle.std.proofs.Common.{◌≡◌, ◌-◌, ◌+◌, ◌++◌, length, dro
 use Rattle.ff_io.proofs.Portions.{take-append-drop_moved}
 use Rattle.ff_rec.specs.Lines.{text}
 use Rattle.ff_soak.specs.Records.{records_behind}
-use Rattle.ff_soak.proofs.Chunks.{read-end}
+use Rattle.ff_soak.proofs.Chunks.{read-whole}
 use Rattle.ff_soak.proofs.source.SoakSourceSource.read.Goals as goal
 
 pub returns-clause-bytes : goal.returns-clause-bytes
@@ -17,6 +17,6 @@ returns-clause-bytes c =
     let moved = take-append-drop_moved (drop given items) items c.deref.result.now c.copy_from_slice.new.self tail given n refl c.deref.ensures.value c.copy_from_slice.ensures.after whole in (
       sym (ap (λ s. s.left) c.self.view_is) ∙ sym c.more-given.ensures.bytes ∙ ap (λ bytes. bytes ++ rest) moved
           ∙ append_assoc (take n (c.copy_from_slice.new.self ++ tail)) (drop (given + n) items) rest,
-      λ none some_room. read-end items c.deref.result.now given (length c.args.buf.now) n made c.self.inside.records c.deref.ensures.value c.requires c.min-portion.ensures none
-          (λ past. c.more-given.ensures.some (omega (arith, past, c.more-given.new.chunk.ok.0))),
+      λ none some_room. read-whole items c.deref.result.now given (length c.args.buf.now) n made c.self.inside.records c.deref.ensures.value c.min-portion.ensures
+          (omega (arith, c.requires, none)) (omega (arith, none)) (λ few. c.more-given.ensures.whole (omega (arith, few, c.more-given.new.chunk.ok.0))),
     )
