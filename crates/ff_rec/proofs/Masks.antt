@@ -1,14 +1,15 @@
 -- The first bytes of a text, compared with a byte all at once: what the mask of them says.
-use Rattle.std.proofs.Common.{◌≡◌, ℕ, zero, suc, ◌+◌, ◌*◌, ◌/◌, ◌%◌, ◌^◌, ◌<◌, ◌≤◌, Bool, true, false, eqb, cond, not, List, [], ◌∷◌, map, length, get_or, take, refl, sym, ap, ◌∙◌, arith}
+use Rattle.std.proofs.Common.{◌≡◌, ℕ, zero, suc, ◌+◌, ◌-◌, ◌*◌, ◌/◌, ◌%◌, ◌^◌, ◌<◌, ◌≤◌, Bool, true, false, eqb, cond, not, List, [], ◌∷◌, map, length, get_or, take, replicate, refl, sym, ap, ◌∙◌, w8, arith}
 use Rattle.std.proofs.Math.Arith.{mod-mul}
-use Rattle.std.proofs.lemmas.Simd.{length-chunk, none_from_empty_mask, ones-mask_l, run_in_chunk_fails, run_in_chunk_stops, trailing_mask_l}
+use Rattle.std.proofs.lemmas.Simd.{bitmask_splat, length-chunk, none_from_empty_mask, ones-mask_l, run_in_chunk_fails, run_in_chunk_stops, trailing_mask_l}
 use Rattle.std.proofs.lemmas.List.{take-map}
 use Rattle.std.proofs.lemmas.List.Sums.{sum_by-cons}
 use Rattle.std.specs.Int.RustNames.{count_ones}
 use Rattle.std.specs.List.{count_by, prefix_len}
 use native.Mathlib.Nat.{pow-zero, pow-suc, mod-one, zero-mod, one-le-pow}
 use lib.Count.{count_trailing_zeros}
-use lib.Lanes.{chunk, mask_l}
+use lib.Lanes.{chunk, mask_l, top, zip2}
+use mir.Val.{bits, hbits}
 use Rattle.memchr.specs.Find.{NoneBefore, Nowhere, Passes, is_byte}
 use Rattle.ff_rec.specs.Lines.{tabs}
 
@@ -41,11 +42,22 @@ ones-first_tabs bs n =
     ∙ ones-mask_l (λ b. eqb b 9) (take n bs)
     ∙ count_by-tabs (take n bs)
 
--- where the mask of a byte has no bit, the byte stands nowhere
-pub Nowhere-mask_l : (byte : ℕ) (text : List ℕ) (n : ℕ) → n ≤ length text → mask_l (map (λ b. eqb b byte) (chunk 0 n text)) ≡ 0
+-- the mask of the first `n` bytes, compared with `byte`, as vectors of `n` lanes make it
+abbrev pub compared : ℕ → List ℕ → ℕ → ℕ
+compared byte text n =
+    mask_l (map (top (hbits w8)) (zip2 (λ a b. cond (eqb a b) (2 ^ bits w8 - 1) 0) (chunk 0 n text) (replicate n byte))) % 2 ^ 64
+
+-- it has a bit for each of them that equals `byte`
+pub compared-is : (byte : ℕ) (text : List ℕ) (n : ℕ) → n ≤ length text → n ≤ 64
+    → compared byte text n ≡ mask_l (map (λ b. eqb b byte) (chunk 0 n text))
+compared-is byte text n within few = bitmask_splat w8 eqb (chunk 0 n text) n byte (length-chunk 0 n text (omega arith)) few
+
+-- where it has no bit, the byte stands nowhere
+pub Nowhere-compared : (byte : ℕ) (text : List ℕ) (n : ℕ) → n ≤ length text → n ≤ 64 → compared byte text n ≡ 0
     → Nowhere (Passes (is_byte byte) text) 0 n
-Nowhere-mask_l byte text n within none k from to here =
-    let fails = none_from_empty_mask (λ b. eqb b byte) text 0 n 0 (omega arith) none k from (omega arith) in
+Nowhere-compared byte text n within few none k from to here =
+    let empty = sym (compared-is byte text n within few) ∙ none in
+    let fails = none_from_empty_mask (λ b. eqb b byte) text 0 n 0 (omega arith) empty k from (omega arith) in
     cc
 
 -- one lane more: where the mask has a bit, fewer lanes than all stand before the first that passes
@@ -58,15 +70,16 @@ prefix_len-lt-length : (p : ℕ → Bool) (bs : List ℕ) → 0 < mask_l (map p 
 prefix_len-lt-length p [] some = absurd (omega arith)
 prefix_len-lt-length p (b ∷ bs) some = short-step (p b) (mask_l (map p bs)) (prefix_len (λ b. not (p b)) bs) (length bs) some (prefix_len-lt-length p bs)
 
--- where the mask of a byte has a bit, its lowest is the first place of the byte
-pub NoneBefore-mask_l : (byte : ℕ) (text : List ℕ) (n r : ℕ) → n ≤ length text → n ≤ 64 → 0 < mask_l (map (λ b. eqb b byte) (chunk 0 n text))
-    → r ≡ count_trailing_zeros 64 (mask_l (map (λ b. eqb b byte) (chunk 0 n text)))
-    → NoneBefore (Passes (is_byte byte) text) 0 n r × Passes (is_byte byte) text r
-NoneBefore-mask_l byte text n r within few some found =
+-- where the mask of the first bytes has a bit, its lowest is the first place of the byte
+pub NoneBefore-compared : (byte : ℕ) (text : List ℕ) (n r : ℕ) → n ≤ length text → n ≤ 64 → 0 < compared byte text n
+    → r ≡ count_trailing_zeros 64 (compared byte text n) → NoneBefore (Passes (is_byte byte) text) 0 n r × Passes (is_byte byte) text r
+NoneBefore-compared byte text n r within few some found =
     let p : ℕ → Bool = λ b. eqb b byte in
     let long = length-chunk 0 n text (omega arith) in
-    let counted = found ∙ trailing_mask_l p 64 (chunk 0 n text) (omega arith) some in
-    let short : r < n = omega (arith, prefix_len-lt-length p (chunk 0 n text) some) in
+    let is = compared-is byte text n within few in
+    let bit : 0 < mask_l (map p (chunk 0 n text)) = omega (arith, is, some) in
+    let counted = found ∙ ap (count_trailing_zeros 64) is ∙ trailing_mask_l p 64 (chunk 0 n text) (omega arith) bit in
+    let short : r < n = omega (arith, prefix_len-lt-length p (chunk 0 n text) bit) in
     let from_front : 0 + r ≡ r = omega arith in
     let here : eqb (get_or text r 0) byte ≡ true = ap (λ k. eqb (get_or text k 0) byte) (sym from_front) ∙ run_in_chunk_stops p text 0 n r 0 (omega arith) counted short in (
       record {

@@ -37,13 +37,7 @@ Same-uncons x s = record { by = λ h. omega (arith, s.by h) }
 pub Same-append : {A : Type 0} {xs ys us vs : List A} → Same xs ys → Same us vs → Same (xs ++ us) (ys ++ vs)
 Same-append {A} {xs} {ys} {us} {vs} s t = record { by = λ h. omega (arith, weigh-append h xs us, weigh-append h ys vs, s.by h, t.by h) }
 
--- the order of the lists doesn't matter, nor that of two elements
-pub Same-append_comm : {A : Type 0} (xs ys : List A) → Same (xs ++ ys) (ys ++ xs)
-Same-append_comm xs ys = record { by = λ h. omega (arith, weigh-append h xs ys, weigh-append h ys xs) }
-
-pub Same-swap : {A : Type 0} (x y : A) (xs : List A) → Same (x ∷ y ∷ xs) (y ∷ x ∷ xs)
-Same-swap x y xs = record { by = λ h. omega arith }
-
+-- an element in the middle is as one in front
 pub Same-middle : {A : Type 0} (x : A) (front back : List A) → Same (front ++ x ∷ back) (x ∷ (front ++ back))
 Same-middle x front back = record { by = λ h. weigh-middle h x front back }
 
@@ -64,9 +58,6 @@ Same-length {A} {xs} {ys} s = sym (weigh-one xs) ∙ s.by (λ _. 1) ∙ weigh-on
 pub weigh-map : {A B : Type 0} (h : B → ℕ) (f : A → B) (xs : List A) → weigh h (map f xs) ≡ weigh (λ x. h (f x)) xs
 weigh-map h f [] = refl
 weigh-map h f (x ∷ xs) = ap (λ n. h (f x) + n) (weigh-map h f xs)
-
-pub Same-map : {A B : Type 0} (f : A → B) {xs ys : List A} → Same xs ys → Same (map f xs) (map f ys)
-Same-map f {xs} {ys} s = record { by = λ h. weigh-map h f xs ∙ s.by (λ x. h (f x)) ∙ sym (weigh-map h f ys) }
 
 pub weigh-flat_map : {A B : Type 0} (h : B → ℕ) (f : A → List B) (xs : List A) → weigh h (flat_map f xs) ≡ weigh (λ x. weigh h (f x)) xs
 weigh-flat_map h f [] = refl

@@ -70,8 +70,8 @@ impl Bytes {
     /// As `of_line` of the first `len` bytes of a longer text. It takes no memory.
     #[inline(always)]
     pub fn of_near_line(alloc: Global, text: &[u8], len: usize) -> Bytes
-        requires near { len ≤ NEAR }
-        requires long { SHORT ≤ length text.now }
+        requires near { len ≤ SHORT }
+        requires long { NEAR ≤ length text.now }
         ensures { result ≡ stored_as (take len text.now) (tabs (take len text.now) + 1) }
     {
         Bytes {

@@ -8,6 +8,9 @@ use std::simd::prelude::*;
 /// So many bytes fill a vector.
 pub const NEAR: usize = 32;
 
+/// So many bytes fill half a vector.
+pub const HALF: usize = 16;
+
 /// The first place of a byte among the first `NEAR`.
 #[inline(always)]
 pub fn first_near(byte: u8, text: &[u8]) -> Option<usize>
@@ -16,6 +19,21 @@ pub fn first_near(byte: u8, text: &[u8]) -> Option<usize>
 {
     let places = u8x32::from_slice(text)
         .simd_eq(u8x32::splat(byte))
+        .to_bitmask();
+    if places == 0 {
+        return None;
+    }
+    Some(places.trailing_zeros() as usize)
+}
+
+/// The first place of a byte among the first `HALF`.
+#[inline(always)]
+pub fn first_half(byte: u8, text: &[u8]) -> Option<usize>
+    requires { HALF ≤ length text.now }
+    ensures { IsFirst (Passes (is_byte byte) text.now) 0 HALF result }
+{
+    let places = u8x16::from_slice(text)
+        .simd_eq(u8x16::splat(byte))
         .to_bitmask();
     if places == 0 {
         return None;

@@ -72,8 +72,8 @@ impl Record {
     /// As `of_line` of the first `len` bytes of a longer text. It takes no memory.
     #[inline(always)]
     pub(crate) fn of_near_line(alloc: Global, text: &[u8], len: usize) -> Record
-        requires near { len ≤ NEAR }
-        requires long { SHORT ≤ length text.now }
+        requires near { len ≤ SHORT }
+        requires long { NEAR ≤ length text.now }
         requires clean { Lacks 10 (take len text.now) }
         ensures { result ≡ cut 9 (take len text.now) }
     {

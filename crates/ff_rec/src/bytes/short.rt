@@ -6,12 +6,12 @@ ghost use Rattle.ff_rec.specs.Lines.{tabs};
 
 use super::parts::swap_parts;
 use crate::Case;
-use crate::near::{NEAR, first_near};
+use crate::near::{HALF, first_half};
 use crate::tabs::{count_few, field_end};
 use std::marker::Model;
 
-/// So many bytes have room in place. With their length and what stands before them they fill 48 bytes.
-pub const SHORT: usize = 39;
+/// So many bytes have room in place. With their length and what stands before them they fill 40 bytes.
+pub const SHORT: usize = 31;
 
 /// At most `SHORT` bytes.
 #[derive(Debug, Drop)]
@@ -29,7 +29,7 @@ impl Model for Short {
 
     ghost view = { λ s. take s.len s.bytes };
 
-    ghost invariant = { λ s. s.len ≤ 39 };
+    ghost invariant = { λ s. s.len ≤ 31 };
 }
 
 impl Short {
@@ -102,11 +102,11 @@ impl Short {
         ensures below { result < 2 ^ 63 }
     {
         let len = usize::from(self.len);
-        if SHORT < start + NEAR || start + NEAR < len {
+        if SHORT < start + HALF || start + HALF < len {
             return field_end(self.as_slice(), start);
         }
         // A tab that is found behind the bytes is none of theirs.
-        match first_near(b'\t', &self.bytes[start..]) {
+        match first_half(b'\t', &self.bytes[start..]) {
             Some(at) => len.min(start + at),
             None => len,
         }

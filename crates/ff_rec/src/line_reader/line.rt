@@ -62,7 +62,7 @@ pub fn push_line(
     ensures too_many { IsErrOf result TooManyFields → 63 < tabs (take len text.now) }
     ensures err { OnErr result (into.new.items ≡ into.old.items) }
 {
-    if len <= NEAR && SHORT <= text.len() {
+    if len <= SHORT && NEAR <= text.len() {
         return push(Record::of_near_line(alloc, text, len), into);
     }
     push(Record::of_line(alloc, &text[..len])?, into)

@@ -287,5 +287,9 @@ fn a_line_is_the_same_whatever_stands_behind_it(rt: HostRuntime) -> Result<(), F
         check_two_fields(&rt, alloc, first, 0, b"")?;
         check_two_fields(&rt, alloc, 0, first, behind)?;
     }
+    // 31 bytes, as many as a record holds in place.
+    for first in 0..31 {
+        check_two_fields(&rt, alloc, first, 30 - first, behind)?;
+    }
     Ok(())
 }

@@ -297,7 +297,7 @@ fn a_record_of_a_part_of_another(rt: HostRuntime) -> Result<(), Fail> {
 }
 
 // So many bytes lie in a record itself; more lie in a heap block.
-const IN_PLACE: usize = 39;
+const IN_PLACE: usize = 31;
 
 // So many bytes `x`.
 fn run_of(alloc: Global, len: usize) -> Result<Field, Fail> {
@@ -342,7 +342,36 @@ fn a_record_is_the_same_in_place_and_in_a_heap_block(rt: HostRuntime) -> Result<
     for len in [0, room, room + 1, 100] {
         check_wide(&rt, rt.alloc(), len, 3 * len + 4)?;
     }
-    assert_eq!(rt; size_of::<Record>(), 48);
+    assert_eq!(rt; size_of::<Record>(), 40);
+    Ok(())
+}
+
+#[test]
+fn a_field_in_place_ends_at_its_tab_or_with_the_record(rt: HostRuntime) -> Result<(), Fail> {
+    for (line, k, want) in [
+        // 30 bytes, with tabs at 3, and behind the first 16 at 17 and 20.
+        ("abc\tefghijklmnopq\tst\tvwxyz1234", 1, "abc"),
+        ("abc\tefghijklmnopq\tst\tvwxyz1234", 2, "efghijklmnopq"),
+        ("abc\tefghijklmnopq\tst\tvwxyz1234", 3, "st"),
+        ("abc\tefghijklmnopq\tst\tvwxyz1234", 4, "vwxyz1234"),
+        // The second field ends near the last of the 16 bytes that are looked at all at once.
+        ("abc\tefghijklmnopqrs\t", 2, "efghijklmnopqrs"),
+        ("abc\tefghijklmnopqrs\t", 3, ""),
+        ("abc\tefghijklmnopqrst", 2, "efghijklmnopqrst"),
+        ("abc\tefghijklmnopqrst\t", 2, "efghijklmnopqrst"),
+        // Near the last byte that has room.
+        ("0123456789abcd\tfghijklmnopqrst\t", 2, "fghijklmnopqrst"),
+        ("0123456789abcd\tfghijklmnopqrst\t", 3, ""),
+        ("0123456789abcd\tfghijklmnopqrstu", 2, "fghijklmnopqrstu"),
+        ("0123456789abcde\tghijklmnopqrstu", 2, "ghijklmnopqrstu"),
+    ] {
+        expect_field(
+            &rt,
+            &record_of(rt.alloc(), line.as_bytes())?,
+            k,
+            Some(want.as_bytes()),
+        );
+    }
     Ok(())
 }
 

@@ -12,10 +12,10 @@ returns-in-Some-clause-end c =
     let start = c.args.start in
     let low : start ≤ len = omega (arith, c.requires, ap length c.self.view_is, length-take len d) in
     let filled : len ≤ length d = omega (arith, c.self.invariant, c.self.told) in
-    let all : 39 ≡ length d = omega (arith, c.self.told) in
+    let all : 31 ≡ length d = omega (arith, c.self.told) in
     let room = ap (λ (n : ℕ). take (n - start) (drop start d)) all ∙ take_rest d start in
     subst (λ (q : List ℕ). IsFieldEnd q start c.min.result) c.self.view_is
-    (IsFieldEnd-found d _ len start filled low room c.in-Some.at 32 c.min.result c.in-Some.ensures.0 c.in-Some.ensures.1
+    (IsFieldEnd-found d _ len start filled low room c.in-Some.at 16 c.min.result c.in-Some.ensures.0 c.in-Some.ensures.1
     (c.min.ensures ∙ ap (λ (n : ℕ). min n (start + c.in-Some.at)) c.from-len.ensures))
 
 pub returns-in-None-clause-end : goal.returns-in-None-clause-end
@@ -25,8 +25,8 @@ returns-in-None-clause-end c =
     let start = c.args.start in
     let low : start ≤ len = omega (arith, c.requires, ap length c.self.view_is, length-take len d) in
     let filled : len ≤ length d = omega (arith, c.self.invariant, c.self.told) in
-    let all : 39 ≡ length d = omega (arith, c.self.told) in
+    let all : 31 ≡ length d = omega (arith, c.self.told) in
     let room = ap (λ (n : ℕ). take (n - start) (drop start d)) all ∙ take_rest d start in
     subst (λ (q : List ℕ). IsFieldEnd q start c.from-len.result) c.self.view_is
     (subst (IsFieldEnd (take len d) start) (sym c.from-len.ensures)
-    (IsFieldEnd-all d _ len start filled low room 32 (omega (arith, c.if-start-len.false, c.from-len.ensures)) c.in-None.ensures))
+    (IsFieldEnd-all d _ len start filled low room 16 (omega (arith, c.if-start-len.false, c.from-len.ensures)) c.in-None.ensures))

@@ -4,4 +4,4 @@ use Rattle.std.proofs.lemmas.List.{take-take}
 use Rattle.ff_rec.proofs.bytes.short.Short.of_front.Goals as goal
 
 pub returns : goal.returns
-returns c = ap (take c.args.len) c.copy_from_slice.ensures.after ∙ take-take c.args.len 39 c.args.text.now c.requires.few
+returns c = ap (take c.args.len) c.copy_from_slice.ensures.after ∙ take-take c.args.len 31 c.args.text.now c.requires.few

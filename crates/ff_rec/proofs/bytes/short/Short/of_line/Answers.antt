@@ -8,5 +8,5 @@ pub returns-clause-tabs : goal.returns-clause-tabs
 returns-clause-tabs c =
     let line = c.args.line.now in
     c.count_few-tab_count.ensures.count
-    ∙ ap (λ (q : List ℕ). tabs (take c.min.result (q ++ drop (length line) (replicate 39 0)))) c.copy_from_slice.ensures.after
-    ∙ tabs-padded line c.min.result 39 (length line) (omega (arith, c.min.ensures, c.next_multiple_of.ensures.lower_bound, c.requires))
+    ∙ ap (λ (q : List ℕ). tabs (take c.min.result (q ++ drop (length line) (replicate 31 0)))) c.copy_from_slice.ensures.after
+    ∙ tabs-padded line c.min.result 31 (length line) (omega (arith, c.min.ensures, c.next_multiple_of.ensures.lower_bound, c.requires))
