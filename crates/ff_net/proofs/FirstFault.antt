@@ -1,5 +1,5 @@
 -- The first of all faults, rule by rule, and the depth of a network in which nothing is too deep.
-use Rattle.std.proofs.Common.{◌≡◌, ◌≤◌, ◌+◌, ℕ, nat_eq, Bool, true, false, if◌then◌else◌, List, [], ◌∷◌, ◌++◌, map, length, Option, None, Some, refl, ap, sym, ◌∙◌, arith}
+use Rattle.std.proofs.Common.{◌≡◌, ◌≤◌, ◌+◌, ℕ, nat_eq, Bool, true, false, if◌then◌else◌, List, [], ◌∷◌, ◌++◌, map, length, Option, None, Some, refl, sym, ◌∙◌, arith}
 use Rattle.std.specs.Option.{option_or, option_map}
 use Rattle.ff_node.specs.Behaviour.{Behaviour}
 use Rattle.ff_net.specs.declared.net.Version.{Version}
@@ -21,18 +21,6 @@ first-map f (x ∷ xs) ys = refl
 pub faults_of-first : {N : Type 0} (b : Behaviour N) (v : Version) (t : Tree N) (rule : Rule) (rules : List Rule)
     → first (faults_of b v t (rule ∷ rules)) ≡ option_or (option_map (λ place. (number_of rule, place)) (first (breaks b v rule t))) (first (faults_of b v t rules))
 faults_of-first b v t rule rules = first-map (λ place. (number_of rule, place)) (breaks b v rule t) (faults_of b v t rules)
-
--- the first place of a rule is named with its number
-pub faults_of-hit : {N : Type 0} (b : Behaviour N) (v : Version) (t : Tree N) (rule : Rule) (rules : List Rule) (place : List ℕ)
-    → first (breaks b v rule t) ≡ Some place → first (faults_of b v t (rule ∷ rules)) ≡ Some (number_of rule, place)
-faults_of-hit b v t rule rules place is =
-    faults_of-first b v t rule rules ∙ ap (λ o. option_or (option_map (λ at. (number_of rule, at)) o) (first (faults_of b v t rules))) is
-
--- a rule that is kept is left out
-pub faults_of-miss : {N : Type 0} (b : Behaviour N) (v : Version) (t : Tree N) (rule : Rule) (rules : List Rule)
-    → first (breaks b v rule t) ≡ None → first (faults_of b v t (rule ∷ rules)) ≡ first (faults_of b v t rules)
-faults_of-miss b v t rule rules is =
-    faults_of-first b v t rule rules ∙ ap (λ o. option_or (option_map (λ at. (number_of rule, at)) o) (first (faults_of b v t rules))) is
 
 -- where nothing comes first, nothing is there
 pub or-none : {A : Type 0} (o p : Option A) → option_or o p ≡ None → (o ≡ None) × (p ≡ None)

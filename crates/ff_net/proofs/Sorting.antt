@@ -1,9 +1,8 @@
 -- How sends are sorted into tasks and results, one after another.
-use Rattle.std.proofs.Common.{◌≡◌, ◌+◌, ◌<◌, Bool, true, false, not, cond, List, [], ◌∷◌, ◌++◌, length, refl, sym, ap, ◌∙◌, append_assoc, append-nil, arith}
+use Rattle.std.proofs.Common.{◌≡◌, ◌+◌, ◌<◌, Bool, true, false, not, cond, List, [], ◌∷◌, ◌++◌, length, sym, ap, ◌∙◌, append_assoc, arith}
 use Rattle.std.specs.List.{filter}
 use Rattle.ff_rec.specs.Lines.{Rec}
 use Rattle.ff_node.specs.Sends.{Sent}
-use Rattle.ff_net.specs.Sorts.{Sorts}
 use Rattle.ff_net.specs.declared.tasks.Tasks.{Tasks}
 
 -- what is left of the sends with what was sorted is all
@@ -12,9 +11,6 @@ pub record SortsOn (round : Rec → Bool) (x y : Tasks) (before after : Sent) : 
   pub results : y.results ++ filter (λ r. not (round r)) after.sends ≡ x.results ++ filter (λ r. not (round r)) before.sends
   pub room : y.room + length (filter round before.sends) ≡ x.room + length (filter round after.sends)
   pub rest : ◌≡◌ {A = Sent} (record after { sends = [] }) (record before { sends = [] })
-
-pub SortsOn-refl : (round : Rec → Bool) (x : Tasks) (out : Sent) → SortsOn round x x out out
-SortsOn-refl round x out = record { next = refl; results = refl; room = refl; rest = refl }
 
 -- a test of the first
 filter-first : (test : Rec → Bool) (r : Rec) (all rest : List Rec) (answer : Bool) → all ≡ r ∷ rest → test r ≡ answer
@@ -55,15 +51,3 @@ module _ (round : Rec → Bool) (x y z : Tasks) (before out after : Sent) (r : R
   -- a task for which there is no room
   pub full-task : round r ≡ true → y.room ≡ 0 → x.room < length (filter round before.sends)
   full-task tells room = omega (arith, so_far.room, ap length (filter-first round r out.sends after.sends true first tells))
-
--- all were sorted
-pub Sorts-end : (round : Rec → Bool) (x y : Tasks) (before out after : Sent) → SortsOn round x y before out → out.sends ≡ [] → after ≡ out
-    → Sorts round before.sends x y × (after ≡ record before { sends = [] })
-Sorts-end round x y before out after so_far none is = (
-  record {
-    next = sym (append-nil y.next) ∙ ap (λ l. y.next ++ filter round l) (sym none) ∙ so_far.next;
-    results = sym (append-nil y.results) ∙ ap (λ l. y.results ++ filter (λ r. not (round r)) l) (sym none) ∙ so_far.results;
-    room = omega (arith, so_far.room, ap (λ l. length (filter round l)) none);
-  },
-  is ∙ ap (λ (l : List Rec). record out { sends = l }) none ∙ so_far.rest,
-)

@@ -1,14 +1,13 @@
 -- What must hold of the whole lists at a unit's ins and outs, their Eos left out. The rows are said of ins that carry only
 -- the messages that their edge carries.
-use Rattle.std.specs.Prelude.{◌≡◌, ℕ, suc, ◌+◌, ◌<◌, ◌==◌, if◌then◌else◌, Bool, true, false, List, [], ◌∷◌, ◌++◌, map, length}
+use Rattle.std.specs.Prelude.{◌≡◌, ℕ, suc, ◌+◌, ◌<◌, ◌==◌, if◌then◌else◌, List, [], ◌∷◌, ◌++◌, map, length}
 use Rattle.std.specs.List.{AllByRecursion, flat_map}
 use Rattle.ff_rec.specs.Lines.{Rec}
 use Rattle.ff_rec.specs.Streams.{at, carried}
 use Rattle.ff_rec.specs.declared.msg.Msg.TheVariants.{Item, Mark, Pick, Eos, Abort}
-use Rattle.ff_node.specs.Behaviour.{Behaviour, node, node_rejected, node_rejected_count}
+use Rattle.ff_node.specs.Behaviour.{Behaviour, node}
 use Rattle.ff_node.specs.Picks.{ArePicks, share, turns, by_key}
 use Rattle.ff_node.specs.Runs.{Message}
-use Rattle.ff_node.specs.Sends.{counted}
 use Rattle.ff_node.specs.declared.class.Class.TheVariants.{Plain}
 
 -- an edge of records and Marks carries nothing else
@@ -34,12 +33,6 @@ pub record FitsStage {S : Type 0} (b : Behaviour S) (o : S) (ins outs : List (Li
   pub one_out : length outs ≡ 1
   pub unmarked : (xs : List Rec) → at ins 0 ≡ carried xs → at outs 0 ≡ carried (node b o xs)
   pub plain : b.class o ≡ Plain → AllByRecursion IsItemOrMark (at ins 0) → at outs 0 ≡ flat_map (replaced b o) (at ins 0)
-
--- the rejects of a stage or a worker: their number, and those it holds behind those that were taken out, where it keeps them
-pub record FitsRejects {S : Type 0} (b : Behaviour S) (o : S) (keeps : Bool) (xs : List Rec) (number : ℕ) (taken held : List Rec) : Type 0 where
-  pub number_is : number ≡ counted (node_rejected_count b o xs)
-  pub kept : keeps ≡ true → taken ++ held ≡ node_rejected b o xs
-  pub none : keeps ≡ false → held ≡ []
 
 -- a worker: for each task its sends and a Mark
 pub record FitsWorker {S : Type 0} (b : Behaviour S) (o : S) (ins outs : List (List Message)) : Type 0 where

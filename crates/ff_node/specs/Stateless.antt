@@ -1,9 +1,8 @@
 -- Nodes without a state: what such a node does depends on the record alone.
-use Rattle.std.specs.Prelude.{◌≡◌, false, if◌then◌else◌, List, [], ◌∷◌, ◌++◌, refl}
-use Rattle.std.specs.List.{flat_map}
+use Rattle.std.specs.Prelude.{◌≡◌, false, List, [], ◌∷◌, refl}
 use Rattle.std.proofs.Common.{◌∙◌, ap}
 use Rattle.ff_rec.specs.Lines.{Rec}
-use Rattle.ff_node.specs.Behaviour.{Behaviour, KeepsKind, sent_from, rejected_from, state_from, node, node_rejected}
+use Rattle.ff_node.specs.Behaviour.{Behaviour, KeepsKind, state_from}
 use Rattle.ff_node.specs.Classes.{IsPlainNode, reached}
 
 -- no record changes it, it opens as it is, never ends by itself, and nothing comes at the end
@@ -36,27 +35,3 @@ IsPlainNode-stateless b h o = record {
   last = λ ys. h.last (reached b o ys);
   last_rejects = λ ys. h.last_rejects (reached b o ys);
 }
-
--- it sends for a list what it sends for each record in turn
-pub sent_from-stateless : {S : Type 0} (b : Behaviour S) → IsStateless b → (s : S) (xs : List Rec) → sent_from b s xs ≡ flat_map (b.sends s) xs
-sent_from-stateless b h s [] = h.last s
-sent_from-stateless b h s (x ∷ xs) =
-    ap (λ ends. b.sends s x ++ (if ends then b.last (b.next s x) else sent_from b (b.next s x) xs)) (h.ends s x)
-    ∙ ap (λ t. b.sends s x ++ sent_from b t xs) (h.next s x)
-    ∙ ap (λ ys. b.sends s x ++ ys) (sent_from-stateless b h s xs)
-
--- it rejects for a list what it rejects for each record in turn
-pub rejected_from-stateless : {S : Type 0} (b : Behaviour S) → IsStateless b → (s : S) (xs : List Rec) → rejected_from b s xs ≡ flat_map (b.rejects s) xs
-rejected_from-stateless b h s [] = h.last_rejects s
-rejected_from-stateless b h s (x ∷ xs) =
-    ap (λ ends. b.rejects s x ++ (if ends then b.last_rejects (b.next s x) else rejected_from b (b.next s x) xs)) (h.ends s x)
-    ∙ ap (λ t. b.rejects s x ++ rejected_from b t xs) (h.next s x)
-    ∙ ap (λ ys. b.rejects s x ++ ys) (rejected_from-stateless b h s xs)
-
--- the same of its sends from the opening state on
-pub node-stateless : {S : Type 0} (b : Behaviour S) → IsStateless b → (o : S) (xs : List Rec) → node b o xs ≡ flat_map (b.sends o) xs
-node-stateless b h o xs = sent_from-stateless b h (b.opening o) xs ∙ ap (λ s. flat_map (b.sends s) xs) (h.opening o)
-
--- the same of its rejects
-pub node_rejected-stateless : {S : Type 0} (b : Behaviour S) → IsStateless b → (o : S) (xs : List Rec) → node_rejected b o xs ≡ flat_map (b.rejects o) xs
-node_rejected-stateless b h o xs = rejected_from-stateless b h (b.opening o) xs ∙ ap (λ s. flat_map (b.rejects s) xs) (h.opening o)

@@ -74,6 +74,26 @@ pub(crate) fn pass<N: Node>(
     if out.len() == 0 {
         return pass_one(nodes, ended, r, out);
     }
+    pass_behind(nodes, ended, r, out)
+}
+
+// A record through all parts, where records that were sent before stand aside meanwhile. It stands apart, so that a
+// node that sends one record for each is quick.
+#[inline(never)]
+fn pass_behind<N: Node>(
+    nodes: &mut [N],
+    ended: &mut [bool],
+    r: Record,
+    out: &mut Sends,
+) -> Result<(), NoMemory>
+    requires flags { length nodes.old ≤ length ended.old }
+    ensures kind { map N.does.opening nodes.new ≡ map N.does.opening nodes.old }
+    ensures state { OnOk result
+        (parts nodes.new ended.new ≡ through_after N.does (parts nodes.old ended.old) (r ∷ [])) }
+    ensures sends { OnOk result (out.new ≡ add out.old
+        (through N.does (parts nodes.old ended.old) (r ∷ []))
+        (through_rejects N.does (parts nodes.old ended.old) (r ∷ []))) }
+{
     let before = out.take_queue()?;
     out.send(r)?;
     pass_all(nodes, ended, 0, out)?;

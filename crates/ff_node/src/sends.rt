@@ -1,5 +1,6 @@
 // What a node's calls gather for their caller.
-ghost use Rattle.std.specs.Prelude.{◌≡◌, ◌∷◌, [], length, false, IsOk, OnOk, OnErr};
+ghost use Rattle.std.specs.Prelude.{◌≡◌, ◌<◌, ◌∷◌, [], length, false, IsOk, OnOk, OnErr};
+ghost use Rattle.std.proofs.Common.{deque_len, deque_capacity};
 ghost use Rattle.ff_node.specs.Sends.{add, nothing_sent, IsCounted};
 
 mod taken;
@@ -53,21 +54,11 @@ impl Sends {
         ensures err { OnErr result (self.new ≡ self.old) }
     {
         if self.first.is_some() || !self.more.is_empty() {
-            return self.send_behind(r);
+            make_room(&mut self.more)?;
+            self.more.push_back_reserved(r);
+            return Ok(());
         }
         self.first = Some(r);
-        Ok(())
-    }
-
-    // Adds a record behind those in the queue. It stands apart, so that the first send of a node is quick.
-    #[inline(never)]
-    fn send_behind(&mut self, r: Record) -> Result<(), NoMemory>
-        ensures ok { OnOk result (self.new ≡ add self.old (r ∷ []) []) }
-        ensures err { OnErr result (self.new ≡ self.old) }
-    {
-        // Room first: a refused push would hand the record back, and so move it once more.
-        self.more.reserve(1)?;
-        self.more.push_back_reserved(r);
         Ok(())
     }
 
@@ -107,6 +98,16 @@ impl Sends {
     {
         self.keeps
     }
+}
+
+// Makes room in the queue for one more. It stands apart, and no record goes through memory on the way there.
+#[inline(never)]
+fn make_room(queue: &mut VecDeque<Record>) -> Result<(), NoMemory>
+    ensures same { queue.new.items ≡ queue.old.items }
+    ensures room { OnOk result (deque_len queue.new < deque_capacity queue.new) }
+{
+    queue.reserve(1)?;
+    Ok(())
 }
 
 impl Kept for Sends {

@@ -8,10 +8,6 @@ use Rattle.ff_ops.specs.FoldOps.{above, below, capped_sum, fold_if_number, fold_
 use Rattle.ff_ops.specs.FoldSums.{of_number, sum_above, sum_below, TallyIsLength, TotalIsDifference}
 use Rattle.ff_ops.specs.declared.fold_op.FoldOp.TheVariants.{Tally, Total}
 
--- a cap on the way and at the end is a cap at the end
-min-more : (c n m k : ℕ) → min (min (n + m) c + k) c ≡ min (n + (m + k)) c
-min-more c n m k = omega arith
-
 min-none : (c n : ℕ) → min (n + 0) c ≡ min n c
 min-none c n = omega arith
 

@@ -1,5 +1,5 @@
 -- The words of what is left of a field.
-use Rattle.std.proofs.Common.{◌≡◌, ℕ, ◌+◌, ◌<◌, List, [], ◌∷◌, ◌++◌, map, length, Option, None, Some, refl, sym, ap, ◌∙◌, arith, subst, MatchOption, Bool, false, ◌==◌}
+use Rattle.std.proofs.Common.{◌≡◌, ℕ, ◌+◌, List, [], ◌∷◌, ◌++◌, map, length, Option, None, Some, refl, sym, ap, ◌∙◌, subst, Bool, false, ◌==◌}
 use Rattle.std.proofs.lemmas.Bool.{true≢false}
 use Rattle.std.specs.List.{filter}
 use Rattle.std.specs.Borrow.{Bor}
@@ -31,11 +31,6 @@ rest_size (Some rest) = length rest.now + 1
 pub add-send : (s : Sent) (xs ys : List Rec) → add (add s xs []) ys [] ≡ add s (xs ++ ys) []
 add-send s xs ys = add-add s xs [] ys []
 
--- an empty piece is no word
-pub each_word-empty : (word bytes : List ℕ) (behind : Option (Bor (List ℕ))) → cut 32 bytes ≡ word ∷ rest_cut 32 behind → word ≡ [] → each_word (cut 32 bytes) ≡ words_left behind
-each_word-empty [] bytes behind is empty = ap each_word is
-each_word-empty (c ∷ cs) bytes behind is empty = absurd (cc)
-
 -- any other piece is one
 pub each_word-word : (word bytes : List ℕ) (behind : Option (Bor (List ℕ))) → cut 32 bytes ≡ word ∷ rest_cut 32 behind → (word ≡ [] → ⊥) → each_word (cut 32 bytes) ≡ (word ∷ []) ∷ words_left behind
 each_word-word [] bytes behind is some = absurd (some refl)
@@ -58,11 +53,6 @@ IsPlain-piece word bytes (Some rest) is h = IsPlain-front word (32 ∷ rest.now)
 pub IsPlainRest-behind : (word bytes : List ℕ) (behind : Option (Bor (List ℕ))) → bytes ≡ whole_of 32 word behind → IsPlain bytes → IsPlainRest behind
 IsPlainRest-behind word bytes None is h = tt
 IsPlainRest-behind word bytes (Some rest) is h = (IsPlain-back word (32 ∷ rest.now) (subst IsPlain is h)).1
-
--- the rest is shorter
-pub rest_size-smaller : (word bytes : List ℕ) (behind : Option (Bor (List ℕ))) → MatchOption behind (length word ≡ length bytes) (λ rest. length word + length rest.now < length bytes) → rest_size behind < length bytes + 1
-rest_size-smaller word bytes None h = omega arith
-rest_size-smaller word bytes (Some rest) h = omega arith
 
 -- a word that was sent is no longer left
 pub words_left-sent : (out new : Sent) (word bytes : List ℕ) (behind : Option (Bor (List ℕ))) (r : Rec) → cut 32 bytes ≡ word ∷ rest_cut 32 behind → (word ≡ [] → ⊥) → r ≡ word ∷ [] → new ≡ add out (r ∷ []) [] → add new (words_left behind) [] ≡ add out (each_word (cut 32 bytes)) []

@@ -17,9 +17,6 @@ reversed : (a b : List ℕ) (o : Ordering) → slice_cmp nat_cmp a b ≡ o → s
 reversed a b o is = nat_list_cmp_total.antisymm b a ∙ ap ordering_reverse is
 
 -- how keys stand that are the same as others
-left_same : (a b c : List ℕ) (o : Ordering) → a ≡ b → slice_cmp nat_cmp b c ≡ o → slice_cmp nat_cmp a c ≡ o
-left_same a b c o same is = ap (λ (k : List ℕ). slice_cmp nat_cmp k c) same ∙ is
-
 right_same : (a b c : List ℕ) (o : Ordering) → b ≡ c → slice_cmp nat_cmp a b ≡ o → slice_cmp nat_cmp a c ≡ o
 right_same a b c o same is = ap (slice_cmp nat_cmp a) (sym same) ∙ is
 

@@ -18,11 +18,6 @@ left-one k n h = omega arith
 pub left-times : (k n w : ℕ) → k < n → (n - k) * w ≡ w + (n - (k + 1)) * w
 left-times k n w h = ap (λ m. m * w) (left-one k n h) ∙ omega arith
 
-pub range-left : (e k n : ℕ) → k < n → range e (n - k) ≡ e ∷ range (e + 1) (n - (k + 1))
-range-left e k n h =
-    let step : suc e ≡ e + 1 = omega arith in
-    ap (range e) (left-one k n h) ∙ ap (λ f. e ∷ range f (n - (k + 1))) step
-
 pub stride-left : (step e k n : ℕ) → k < n → stride step e (n - k) ≡ e ∷ stride step (e + step) (n - (k + 1))
 stride-left step e k n h = ap (stride step e) (left-one k n h)
 

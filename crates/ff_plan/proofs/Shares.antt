@@ -1,14 +1,14 @@
 -- Lists that are dealt to places by picks, and what the shares of all places are together.
-use Rattle.std.proofs.Common.{◌≡◌, ℕ, zero, suc, ◌+◌, ◌<◌, ◌≤◌, ◌==◌, Bool, true, false, cond, List, [], ◌∷◌, ◌++◌, map, length, filter, Option, None, Some, refl, sym, ap, ap₂, ◌∙◌, arith, mod-lt}
+use Rattle.std.proofs.Common.{◌≡◌, ℕ, ◌+◌, ◌<◌, ◌≤◌, ◌==◌, Bool, true, false, cond, List, [], ◌∷◌, ◌++◌, map, length, filter, Option, None, Some, refl, sym, ap, ap₂, ◌∙◌, arith, mod-lt}
 use Rattle.std.proofs.lemmas.Bool.{eq-eqb}
 use Rattle.std.proofs.Math.Path.{fun_ext}
-use Rattle.std.specs.List.{AllByRecursion, flat_map}
+use Rattle.std.specs.List.{flat_map}
 use Rattle.ff_rec.specs.Fields.{field_at}
 use Rattle.ff_rec.specs.Lines.{Rec}
 use Rattle.ff_rec.specs.Weights.{weigh, Same}
-use Rattle.ff_rec.proofs.WeightLaws.{Same-≡, weigh-flat_map}
+use Rattle.ff_rec.proofs.WeightLaws.{weigh-flat_map}
 use Rattle.ff_node.specs.Fits.{first_group, without_first, gather, picked}
-use Rattle.ff_node.specs.Picks.{ArePicks, share, turns_from, turns, by_key, place_of, hash_from}
+use Rattle.ff_node.specs.Picks.{ArePicks, share, by_key, place_of, hash_from}
 pub use Rattle.ff_plan.proofs.Totals.{total}
 use Rattle.ff_plan.proofs.Totals.{total-same, total-zero, total-plus, total-one}
 
@@ -40,9 +40,6 @@ pub record Additive {A B : Type 0} (f : List A → List B) : Type 0 where
   pub each : A → List B
   pub is : (xs : List A) → Same (f xs) (flat_map each xs)
 
-pub Additive-≡ : {A B : Type 0} (f : List A → List B) (g : A → List B) → ((xs : List A) → f xs ≡ flat_map g xs) → Additive f
-Additive-≡ f g is = record { each = g; is = λ xs. Same-≡ (f xs) (flat_map g xs) (is xs) }
-
 -- what it makes of the shares weighs together what it makes of the list
 pub total-weigh-additive : {A B : Type 0} {n : ℕ} {p : List ℕ} {xs : List A} (f : List A → List B) → Additive f → ArePicks n p xs → (h : B → ℕ)
     → total n (λ j. weigh h (f (share p xs j))) ≡ weigh h (f xs)
@@ -68,33 +65,10 @@ pub same_of_shares : {A B : Type 0} {n : ℕ} {p q : List ℕ} {xs : List A} {ys
 same_of_shares {A} {B} {n} {p} {q} {xs} {ys} f dealt merged shares additive =
     same_of_totals (λ j. f (share p xs j)) (f xs) merged shares (total-weigh-additive f additive dealt)
 
--- the places of round robin
-length-turns_from : (n k m : ℕ) → length (turns_from n k m) ≡ m
-length-turns_from n k zero = refl
-length-turns_from n k (suc m) = omega (arith, length-turns_from n (suc k) m)
-
-turns_from-within : (n k m : ℕ) → 1 ≤ n → AllByRecursion (λ w. w < n) (turns_from n k m)
-turns_from-within n k zero some = tt
-turns_from-within n k (suc m) some = (mod-lt k some, turns_from-within n (suc k) m some)
-
-pub turns_are_picks : {A : Type 0} {n : ℕ} {xs : List A} → 1 ≤ n → ArePicks n (turns n (length xs)) xs
-turns_are_picks {A} {n} {xs} some = record { each = length-turns_from n 0 (length xs); within = turns_from-within n 0 (length xs) some }
-
 -- the places of keys
 pub place_of-lt : (o : Option (List ℕ)) (n : ℕ) → 1 ≤ n → place_of o n < n
 place_of-lt None n some = omega (arith, some)
 place_of-lt (Some bytes) n some = mod-lt (hash_from 0 bytes) some
-
-by_key-within : (f n : ℕ) (xs : List Rec) → 1 ≤ n → AllByRecursion (λ w. w < n) (by_key f n xs)
-by_key-within f n [] some = tt
-by_key-within f n (x ∷ xs) some = (place_of-lt (field_at f x) n some, by_key-within f n xs some)
-
-length-by_key : (f n : ℕ) (xs : List Rec) → length (by_key f n xs) ≡ length xs
-length-by_key f n [] = refl
-length-by_key f n (x ∷ xs) = ap suc (length-by_key f n xs)
-
-pub by_key_are_picks : (f : ℕ) {n : ℕ} {xs : List Rec} → 1 ≤ n → ArePicks n (by_key f n xs) xs
-by_key_are_picks f {n} {xs} some = record { each = length-by_key f n xs; within = by_key-within f n xs some }
 
 -- a place's share of a list that is dealt by key
 pub share-by_key : (f n : ℕ) (xs : List Rec) (j : ℕ) → share (by_key f n xs) xs j ≡ filter (λ x. place_of (field_at f x) n == j) xs

@@ -1,24 +1,9 @@
 -- Laws of the counts, for callers that start or finish several jobs.
-use Rattle.std.specs.Prelude.{◌≡◌, ℕ, ◌≤◌, ◌+◌, List, [], ◌∷◌, length}
+use Rattle.std.specs.Prelude.{◌≡◌, ℕ, ◌+◌, List, [], ◌∷◌, length}
 use Rattle.std.specs.List.{sum_by}
 use Rattle.std.proofs.Common.{arith}
 use Rattle.std.proofs.lemmas.List.Sums.{sum_by-cons}
-use Rattle.ff_spawn.specs.Counts.{more, more_by, count_more, worked_after, Rose, RoseBy}
-
--- what rose and doesn't fall afterwards rose in all
-pub Rose-stays : (first second third : ℕ) → Rose first second → second ≤ third → Rose first third
-Rose-stays first second third rose stays = omega arith
-
-pub RoseBy-stays : (n first second third : ℕ) → RoseBy n first second → second ≤ third → RoseBy n first third
-RoseBy-stays n first second third rose stays = omega arith
-
--- a count that rose by so many rose by fewer, too
-pub RoseBy-fewer : (m n before now : ℕ) → m ≤ n → RoseBy n before now → RoseBy m before now
-RoseBy-fewer m n before now fewer rose = omega arith
-
--- once and once more
-pub RoseBy-trans : (m n first second third : ℕ) → RoseBy m first second → RoseBy n second third → RoseBy (m + n) first third
-RoseBy-trans m n first second third one other = omega arith
+use Rattle.ff_spawn.specs.Counts.{more, more_by, count_more, worked_after, RoseBy}
 
 -- a count of starts rose by the number of the jobs
 pub RoseBy-count_more : {J : Type 0} (n : ℕ) (jobs : List J) → RoseBy (length jobs) n (count_more n jobs)
