@@ -19,6 +19,7 @@ use Rattle.ff_unit.specs.contracts.merge.Merge as Merge
 use Rattle.ff_order.specs.contracts.odeal.ODeal as ODeal
 use Rattle.ff_order.specs.contracts.omerge.OMerge as OMerge
 use Rattle.ff_unit.specs.contracts.runner.NodeRunner as Runner
+use Rattle.ff_unit.specs.contracts.runner.working.Working as Working
 use Rattle.ff_unit.specs.contracts.mode.Mode as Mode
 use Rattle.ff_port.specs.contracts.answers.End as End
 use Rattle.ff_rec.specs.contracts.records.Records as Records
@@ -156,8 +157,11 @@ module _ (N : RattleType) (sent : IsSend N) where
   IsSend-comb : IsSend (Comb.the_row N)
   IsSend-comb = search (sendable, crosses) depth 40
 
+  IsSend-working : IsSend (Working.the_row (Comb.the_row N))
+  IsSend-working = let o = IsSend-one in let s = IsSend-sends in let p = IsSend-past in let c = IsSend-comb in search (sendable, crosses) depth 40
+
   IsSend-runner : IsSend (Runner.the_row (Comb.the_row N))
-  IsSend-runner = let o = IsSend-one in let s = IsSend-sends in let p = IsSend-past in let c = IsSend-comb in search (sendable, crosses) depth 40
+  IsSend-runner = let o = IsSend-one in let w = IsSend-working in search (sendable, crosses) depth 40
 
   IsSend-stage : IsSend (Stage.the_row (Comb.the_row N))
   IsSend-stage = let r = IsSend-runner in search (sendable, crosses) depth 40

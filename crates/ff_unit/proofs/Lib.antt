@@ -1,5 +1,6 @@
-pub mod StageFields
 pub mod DealOuts
 pub mod UnitRuns
+pub mod Through
+pub mod StageThrough
 pub mod UnitAborts
 pub mod FlagViews

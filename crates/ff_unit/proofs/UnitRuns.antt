@@ -105,7 +105,7 @@ module _ {U : Type 0} (d : Doing U) (laws : IsUnit d) where
   EndsAs-behind (suc n) (Ended fin) v e = e
 
   -- moves alone
-  answer_behind-moved : (n : ℕ) → answer_behind n Moved ≡ Moved
+  pub answer_behind-moved : (n : ℕ) → answer_behind n Moved ≡ Moved
   answer_behind-moved zero = refl
   answer_behind-moved (suc n) = refl
 

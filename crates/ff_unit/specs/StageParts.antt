@@ -2,16 +2,15 @@
 use Rattle.std.specs.Prelude.{◌≡◌, Bool, List, [], ◌∷◌, ◌++◌, Option, None, Some}
 use Rattle.std.specs.Option.{option_to_list}
 use Rattle.ff_rec.specs.Lines.{Rec}
-use Rattle.ff_rec.specs.Streams.{carried}
 use Rattle.ff_rec.specs.declared.msg.Msg.TheVariants.{Abort as AbortMsg}
 use Rattle.ff_node.specs.Runs.{Message}
 use Rattle.ff_port.specs.declared.answers.End.{End}
 use Rattle.ff_unit.specs.Stage.{StageState}
 use Rattle.ff_unit.specs.declared.mode.Mode.TheVariants.{Cut}
 
--- what is held: a message in front, records that were sent, and a message behind
-abbrev pub held_of : Option Message → List Rec → Option Message → List Message
-held_of front sends back = option_to_list front ++ (carried sends ++ option_to_list back)
+-- a stage with a message in front of what it holds
+abbrev pub led_by : {N : Type 0} → Option Message → StageState N → StageState N
+led_by front u = record u { held = option_to_list front ++ u.held }
 
 -- the first held message is taken out, or none is held
 abbrev pub TakesHeld : List Message → Option Message → List Message → Type 0

@@ -104,6 +104,20 @@ pub record StepsOnce {U S : Type 0} (d : Doing U) (ports : Ghosts S Rec) (u : U)
   pub ended : EndedOnly d u answer v (ports.waiting after)
   pub linked : ports.link after ≡ ports.link before
 
+-- two steps in a row that both move
+pub record MovesTwice {U S : Type 0} (d : Doing U) (ports : Ghosts S Rec) (u : U) (before : S) (answer : Step) (v : U) (after : S) : Type 0 where
+  pub between : U
+  pub gots_between : List (List Message)
+  pub puts_between : List (List Message)
+  pub first : One d u (ports.gots before) (ports.puts before) Moved between gots_between puts_between
+  pub second : One d between gots_between puts_between Moved v (ports.gots after) (ports.puts after)
+  pub answers : answer ≡ Moved
+  pub linked : ports.link after ≡ ports.link before
+
+-- one step, or two that both move
+abbrev pub StepsThrough : {U S : Type 0} → Doing U → Ghosts S Rec → U → S → Step → U → S → Type 0
+StepsThrough d ports u before answer v after = StepsOnce d ports u before answer v after ⊎ MovesTwice d ports u before answer v after
+
 -- a unit that has ended does nothing more
 pub record StaysAt {U S : Type 0} (ports : Ghosts S Rec) (u : U) (before : S) (v : U) (after : S) : Type 0 where
   pub unit : v ≡ u

@@ -48,6 +48,11 @@ impl<N: Node> Unit for Stage<N> {
         self.runner.step(false, ports)
     }
 
+    #[inline(always)]
+    fn step_through<P: Ports<Record>>(&mut self, ports: &mut P) -> Step {
+        self.runner.step_through(ports)
+    }
+
     fn end_aborted(&mut self) {
         self.runner.end_aborted();
     }

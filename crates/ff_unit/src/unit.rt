@@ -3,7 +3,7 @@ use crate::aborts::put_aborts;
 use ff_port::{End, Ports, Step};
 use ff_rec::Record;
 
-// So many steps are made at once at most.
+// So many times one or two steps are made at once at most.
 const MOST_AT_ONCE: u32 = 1024;
 
 /// A unit of a network: it takes messages at its ins and puts messages at its outs, one at a time.
@@ -11,7 +11,7 @@ pub trait Unit: Drop {
     ghost use Rattle.std.specs.Prelude.{◌≡◌, ◌⊎◌, ◌<◌, ℕ, List, true, [], ◌∷◌, replicate, slice_index};
     ghost use Rattle.ff_rec.specs.declared.msg.Msg.TheVariants.{Abort as AbortMsg};
     ghost use Rattle.ff_node.specs.Runs.{Message, FitsWhole};
-    ghost use Rattle.ff_unit.specs.Units.{Doing, IsUnit, Ran, One, StepsOnce, StepsOn, WaitsOnly, EndedOnly};
+    ghost use Rattle.ff_unit.specs.Units.{Doing, IsUnit, Ran, One, StepsOnce, StepsThrough, StepsOn, WaitsOnly, EndedOnly};
     ghost use Rattle.ff_unit.specs.Units.{known, end_of, HandsReject, HasRejects, TookAbort, StaysAt};
 
     /// What it does, by what is seen of it.
@@ -23,6 +23,16 @@ pub trait Unit: Drop {
         ensures once { StepsOnce does P.Ports self.old ports.old result self.new ports.new }
         ensures again { does.done self.old ≡ true
             → StaysAt P.Ports self.old ports.old self.new ports.new };
+
+    /// One step, or two that move, without what follows from the whole run: call `step_on`. A unit may put at once what it sends for a
+    /// message that it takes, which spares that the way through what it holds.
+    #[inline(always)]
+    fn step_through<P: Ports<Record>>(&mut self, ports: &mut P) -> Step
+        requires { Ran does self.old (P.gots ports.old) (P.puts ports.old) }
+        ensures { StepsThrough does P.Ports self.old ports.old result self.new ports.new }
+    {
+        self.step_once(ports)
+    }
 
     /// What being told to abort makes of a unit whose outs were each given Abort: call `abort`.
     fn end_aborted(&mut self)
@@ -76,7 +86,7 @@ pub trait Unit: Drop {
         self.step_once(ports)
     }
 
-    /// Steps on while it moves, 1,024 times at most: a thread that asks for many steps at once chooses once what the unit is. The
+    /// Steps on while it moves, 2,048 times at most: a thread that asks for many steps at once chooses once what the unit is. The
     /// answer is that of the last step; but where it moved and waits then, it is that it moved.
     #[inline(never)]
     final fn step_on<P: Ports<Record>>(&mut self, ports: &mut P) -> Step
@@ -89,7 +99,7 @@ pub trait Unit: Drop {
         ensures link { P.link ports.new ≡ P.link ports.old }
     {
         for k in 0..MOST_AT_ONCE {
-            match self.step(ports) {
+            match self.step_through(ports) {
                 Step::Moved => {}
                 Step::Waits if k > 0 => return Step::Moved,
                 answer => return answer,

@@ -1,16 +1,16 @@
-// What a runner of a node does with the messages that it takes.
+// What a node at work does with the messages that it takes.
 ghost use Rattle.std.specs.Prelude.{◌≡◌, ◌⊎◌, [], ◌∷◌, None, Some};
 ghost use Rattle.ff_rec.specs.declared.msg.Msg.TheVariants.{Abort as AbortMsg};
 ghost use Rattle.ff_unit.specs.StageParts.{given_up};
 ghost use Rattle.ff_unit.specs.StageSteps.{GivesUp, behind_of, works, closes, LiveTakes, ShutTakes, CutTakes, StageTakes};
 
-use super::NodeRunner;
+use super::working::Working;
 use crate::Mode;
 use ff_node::{Next, Node, Sends, node_end, node_step};
 use ff_port::End;
 use ff_rec::{Msg, Record};
 
-impl<N: Node> NodeRunner<N> {
+impl<N: Node> Working<N> {
     /// Takes a message, while nothing is held.
     #[inline(always)]
     pub(super) fn receive(&mut self, m: Msg<Record>, marks: bool)
@@ -108,7 +108,6 @@ impl<N: Node> NodeRunner<N> {
     fn give_up(&mut self, keeps: bool, fin: Option<End>)
         ensures { self.new ≡ given_up self.old keeps fin }
     {
-        self.front = None;
         self.sends = Sends::new(self.alloc, keeps);
         self.back = Some(Msg::Abort);
         self.mode = Mode::Cut;

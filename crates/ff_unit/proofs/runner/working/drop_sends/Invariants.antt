@@ -1,5 +1,5 @@
 use Rattle.std.proofs.Common.{◌≡◌, [], length}
-use Rattle.ff_unit.proofs.runner.held.drop_sends.Given as goal
+use Rattle.ff_unit.proofs.runner.working.drop_sends.Given as goal
 
 -- nothing but the sends changed
 abbrev pub invariant-loop : goal.invariant-loop
