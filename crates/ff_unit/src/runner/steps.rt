@@ -35,8 +35,8 @@ impl<N: Node> NodeRunner<N> {
         }
     }
 
-    /// One step as of a stage, or two: what it holds first once it took a message is put at once, if the out has room. So that goes
-    /// from the ring that it is taken from to the one that it is put on without a way through memory.
+    /// One step as of a stage, or two: what the node sends first for a message that it takes is put at once, if the out has room. So
+    /// that goes from ring to ring without a way through what is held.
     #[inline(always)]
     pub fn step_through<P: Ports<Record>>(&mut self, ports: &mut P) -> Step
         requires ready { StageReady self.old (P.gots ports.old) (P.puts ports.old) }
@@ -53,8 +53,14 @@ impl<N: Node> NodeRunner<N> {
             return Step::Waits;
         };
         self.working.receive(m, false);
-        if let Some(m) = self.working.take_held() {
-            put(false, m, &mut self.refused, &mut self.working, ports);
+        if let Some(r) = self.working.take_sent() {
+            put(
+                false,
+                Msg::Item(r),
+                &mut self.refused,
+                &mut self.working,
+                ports,
+            );
         }
         Step::Moved
     }

@@ -1,7 +1,7 @@
 // A node at work, with what it sent and was not put yet.
 ghost use Rattle.std.specs.Prelude.{◌≡◌, [], true};
 ghost use Rattle.ff_unit.specs.Stage.{opened_stage};
-ghost use Rattle.ff_unit.specs.StageParts.{TakesHeld};
+ghost use Rattle.ff_unit.specs.StageParts.{TakesHeld, TakesSent};
 ghost use Rattle.ff_unit.specs.StageSteps.{drops};
 ghost use Rattle.ff_unit.specs.StageUnit.{stage_does, aborted_stage};
 ghost use Rattle.ff_unit.specs.Units.{HandsReject, end_of};
@@ -120,6 +120,14 @@ impl<N: Node> Working<N> {
             Some(r) => Some(Msg::Item(r)),
             None => take_out(&mut self.back),
         }
+    }
+
+    /// The first record that the node sent, which is taken out.
+    #[inline(always)]
+    pub(super) fn take_sent(&mut self) -> Option<Record>
+        ensures { TakesSent self.old result self.new }
+    {
+        self.sends.take_first()
     }
 
     /// A put was refused memory: all that is held is dropped, and Abort is held.
