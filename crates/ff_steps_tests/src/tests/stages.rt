@@ -127,6 +127,16 @@ fn run_gate(rt: &impl Abort, alloc: Global, inn: PlainQueue<Record>) -> Result<E
     Ok(ports)
 }
 
+// Has a gate step on over this queue, until it ends: its ends behind that.
+fn step_gate_on(rt: &impl Abort, alloc: Global, inn: PlainQueue<Record>) -> Result<Ends, Fail>
+    requires { inn.got ≡ [] }
+{
+    let mut ports = ends(alloc, inn)?;
+    let mut stage = Stage::new(alloc, Gate { shut: false }, false);
+    assert_eq!(rt; stage.step_on(&mut ports), Step::Ended(End::Eos));
+    Ok(ports)
+}
+
 // Tells a gate to abort: its ends behind that.
 fn abort_gate(rt: &impl Abort, alloc: Global) -> Result<Ends, Fail> {
     let mut ports = ends(alloc, queue(alloc)?)?;
@@ -161,6 +171,9 @@ fn expect_inside(
 fn a_mark_stays_where_it_stands(rt: HostRuntime) -> Result<(), Fail> {
     let inn = marked(&rt, rt.alloc())?;
     let ports = run_gate(&rt, rt.alloc(), inn)?;
+    expect_out(&rt, rt.alloc(), ports, "a|b.")?;
+    let inn = marked(&rt, rt.alloc())?;
+    let ports = step_gate_on(&rt, rt.alloc(), inn)?;
     expect_out(&rt, rt.alloc(), ports, "a|b.")
 }
 
