@@ -12,7 +12,7 @@ use std::collections::VecDeque;
 use std::mem;
 
 /// How many bytes' records are made before they are handed over: few enough that they stay near.
-const PART: usize = 1024;
+const PART: usize = 8192;
 
 /// Hands the records of a piece to the work. The answer is the limit that the piece passes behind them, if it does. Where
 /// the work drops what comes, the piece is read for its limits alone.
