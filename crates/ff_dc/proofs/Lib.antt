@@ -1,0 +1,15 @@
+pub mod Ends
+pub mod Cutting
+pub mod Totals
+pub mod Runs
+pub mod Loosening
+pub mod Fibs
+pub mod Firsts
+pub mod Levels
+pub mod Clipped
+pub mod Bounds
+pub mod Steps
+pub mod FibSteps
+pub mod PushLaws
+pub mod PartsAt
+pub mod AnyOrder

@@ -1,0 +1,4 @@
+pub mod Versions
+pub mod Orders
+pub mod LinkedValues
+pub mod Entries

@@ -1,0 +1,9 @@
+pub mod Cuts
+pub mod Firsts
+pub mod NameSets
+pub mod Crowds
+pub mod LinkLaws
+pub mod Spelled
+pub mod Spells
+pub mod TaskCounts
+pub mod Lowest

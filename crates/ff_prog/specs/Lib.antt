@@ -1,0 +1,14 @@
+pub mod Words
+pub mod Grammar
+pub mod Classes
+pub mod Seen
+pub mod Reading
+pub mod Writers
+pub mod Links
+pub mod Rules
+pub mod Names
+pub mod Checking
+pub mod Known
+pub mod Unlinked
+pub mod Linked
+pub mod Spelling
