@@ -11,7 +11,7 @@ use std::fs::File;
 use std::io::{Read, Stderr, Write};
 use std::rt::Files as FileSystem;
 use storing::{append, append_to_pipe, replace};
-use ways::{Way, way_of};
+use ways::{Identity, Way, identity_of, way_of};
 
 /// The files that the system holds. They tell nothing of what they hold.
 #[derive(Drop)]
@@ -19,6 +19,8 @@ pub struct HostFiles<R> {
     rt: R,
     err: Stderr,
     alloc: Global,
+    // The file that was loaded last.
+    loaded: Option<Identity>,
     faults: u64,
 }
 
@@ -32,6 +34,7 @@ impl<R: FileSystem> HostFiles<R> {
             rt,
             err,
             alloc,
+            loaded: None,
             faults: 0,
         }
     }
@@ -43,6 +46,7 @@ impl<R: FileSystem> Files for HostFiles<R> {
     ghost faults = { λ s. s.faults };
 
     fn load(&mut self, name: &str, limit: usize) -> Result<Vec<u8>, FileFault> {
+        self.loaded = identity_of(&self.rt, name);
         let answer = match File::open(&self.rt, name) {
             Ok(file) => read_within(self.alloc, file, limit),
             Err(error) => Err(error.into()),
@@ -54,7 +58,7 @@ impl<R: FileSystem> Files for HostFiles<R> {
     }
 
     fn store(&mut self, name: &str, bytes: &[u8]) -> Result<(), StoreFault> {
-        let answer = match way_of(&self.rt, name) {
+        let answer = match way_of(&self.rt, name, self.loaded) {
             Way::Replace => replace(self.alloc, &self.rt, name, bytes),
             Way::Through => fs::write(&self.rt, name, bytes).map_err(StoreFault::from),
             Way::Append => append(&self.rt, name, bytes),

@@ -9,6 +9,8 @@ mod mem_source;
 mod outside;
 mod reader_source;
 mod short_sink;
+mod slow_source;
+mod stdin_source;
 mod writer_sink;
 
 pub use files::{FileFault, Files, StoreFault};
@@ -17,6 +19,8 @@ pub use mem_files::MemFiles;
 pub use mem_sink::MemSink;
 pub use mem_source::MemSource;
 pub use outside::{Failed, Sink, Source, write_all};
-pub use reader_source::{ReaderSource, StdinSource};
+pub use reader_source::ReaderSource;
 pub use short_sink::ShortSink;
+pub use slow_source::SlowSource;
+pub use stdin_source::StdinSource;
 pub use writer_sink::{StderrSink, StdoutSink, WriterSink};

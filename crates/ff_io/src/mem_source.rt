@@ -78,4 +78,8 @@ impl Source for MemSource {
         self.ended = portion == 0;
         Ok(portion)
     }
+
+    fn may_wait(&self) -> bool {
+        false
+    }
 }

@@ -28,6 +28,12 @@ pub trait Source {
         ensures ended { ended self.new ≡ is_end result }
         ensures cause { HasCause (faults self.old) (faults self.new) result }
         ensures counts { faults self.new ≡ count_after (faults self.old) result };
+
+    /// Whether the next read may wait for long, so that what is held is to be shown before it. No promise rests on the
+    /// answer. A source that can't tell may wait.
+    fn may_wait(&self) -> bool {
+        true
+    }
 }
 
 /// A stream of bytes that is written in pieces.

@@ -3,7 +3,7 @@ ghost use Rattle.std.specs.Prelude.{◌≡◌, ◌≤◌, false, length, IfOk};
 ghost use Rattle.std.specs.Io.KnownBytes.{ReadConsumes};
 
 use crate::{Failed, Source};
-use std::io::{ErrorKind, Read, Stdin};
+use std::io::{ErrorKind, Read};
 
 /// A reader as a source.
 #[derive(Drop)]
@@ -12,9 +12,6 @@ pub struct ReaderSource<R> {
     faults: u64,
     ended: bool,
 }
-
-/// Standard input.
-pub type StdinSource = ReaderSource<Stdin>;
 
 impl<R: Read> ReaderSource<R> {
     /// A source that read nothing yet.

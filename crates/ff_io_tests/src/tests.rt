@@ -67,6 +67,7 @@ fn source_gives_pieces_to_its_end(rt: HostRuntime) -> Result<(), Fail> {
         (Ok(0), [5, 4]),
     ] {
         check_read(&rt, &mut source, &mut buf, answer);
+        assert!(rt; !source.may_wait());
         assert_eq!(rt; &buf[..2], front.as_slice());
     }
     Ok(())
@@ -177,7 +178,7 @@ fn standard_streams_are_devices(rt: HostRuntime) {
     check_write(&rt, &mut StdoutSink::new(rt.stdout()), b"\n", Ok(()));
     check_write(&rt, &mut StderrSink::new(rt.stderr()), b"\n", Ok(()));
     // A test has nothing on its standard input.
-    let mut input = StdinSource::new(rt.stdin());
+    let mut input = StdinSource::new(&rt, rt.stdin());
     check_read(&rt, &mut input, &mut [0; 8], Ok(0));
 }
 

@@ -1,4 +1,6 @@
 // Networks that break each rule, and networks at the limits.
+mod tasks;
+
 use ff_net::{Checked, Net, Path, Route, RuleFault, Sched, Test, Version, check};
 use ff_node::{Class, Cmp};
 use ff_test_nodes::Silent;
@@ -210,6 +212,8 @@ fn the_lowest_rule_is_named_first(rt: HostRuntime) {
     assert!(rt; refuses(counts, 2, &[2]));
     let first = pipe(alloc, row(alloc, 0), row(alloc, 65));
     assert!(rt; refuses(first, 2, &[1]));
+    let sets = a2a(alloc, 1, row(alloc, 0), Route::Rr, 1, row(alloc, 65));
+    assert!(rt; refuses(sets, 2, &[1]));
     let two = pipe(
         alloc,
         farm(alloc, 2, id()),
@@ -264,6 +268,16 @@ fn what_a_checked_ordered_farm_tells(rt: HostRuntime) -> Result<(), Fail> {
 }
 
 #[test]
+fn what_checked_farms_and_sets_tell(rt: HostRuntime) -> Result<(), Fail> {
+    let alloc = rt.alloc();
+    let line = checked(pipe(alloc, id(), farm(alloc, 2, id())))?;
+    let sets = checked(a2a(alloc, 1, id(), Route::Rr, 1, id()))?;
+    assert!(rt; !line.is_ordered() && !sets.is_ordered());
+    assert!(rt; !line.has_wrap() && line.sweeps() && line.has_copies());
+    Ok(())
+}
+
+#[test]
 fn what_a_checked_wrap_tells(rt: HostRuntime) -> Result<(), Fail> {
     let alloc = rt.alloc();
     let round = checked(pipe(alloc, wrap(alloc, 1, id(), 1), id()))?;
@@ -282,6 +296,34 @@ fn what_a_network_holds(rt: HostRuntime) -> Result<(), Fail> {
     assert!(rt; nodes[0].class == Class::Keyed(1));
     assert!(rt; nodes[2].class == Class::Plain);
     assert!(rt; nodes[3].class == Class::Ordered);
+    Ok(())
+}
+
+// The numbers of a network's own form.
+fn numbers(net: &Net<Silent>) -> (u32, u32) {
+    match net {
+        Net::Farm { workers, .. } | Net::OFarm { workers, .. } | Net::Wrap { workers, .. } => {
+            (*workers, 0)
+        }
+        Net::A2a { left, right, .. } => (*left, *right),
+        Net::Leaf(_) | Net::Pipe(_) | Net::Comb(_) => (0, 0),
+    }
+}
+
+fn numbers_of_copy(alloc: Global, net: Made) -> Result<(u32, u32), Fail> {
+    Ok(numbers(&net?.copy(alloc)?))
+}
+
+#[test]
+fn a_copy_has_the_same_numbers(rt: HostRuntime) -> Result<(), Fail> {
+    let alloc = rt.alloc();
+    let found = [
+        numbers_of_copy(alloc, farm(alloc, 2, id()))?,
+        numbers_of_copy(alloc, ofarm(alloc, 3, id()))?,
+        numbers_of_copy(alloc, wrap(alloc, 4, id(), 1))?,
+        numbers_of_copy(alloc, a2a(alloc, 5, id(), Route::Rr, 6, id()))?,
+    ];
+    assert_eq!(rt; found, [(2, 0), (3, 0), (4, 0), (5, 6)]);
     Ok(())
 }
 

@@ -1,6 +1,7 @@
 // What no clause says: that the calls succeed while memory is there, and that names and arguments are the table's.
 mod fields;
 mod folds;
+mod kinds;
 mod numbers;
 mod ordered;
 mod runs;

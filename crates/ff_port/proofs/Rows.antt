@@ -68,6 +68,16 @@ module _ {T E : Type 0} (f : E → List (Msg T)) where
       let behind : count_of f es ≡ 0 = count_of-empty es h.1 in
       omega (arith, sum_by-cons (λ i. length (f i)) e es, here, behind)
 
+  -- the lists of what was taken tell how many messages that is
+  count_of-lists : (es : List E) → count_of f es ≡ sum_by (λ ms. length ms) (map f es)
+  count_of-lists [] = refl
+  count_of-lists (e ∷ es) =
+      omega (arith, sum_by-cons (λ i. length (f i)) e es, sum_by-cons (λ ms. length ms) (f e) (map f es), count_of-lists es)
+
+  -- as many were taken where the same was taken
+  pub count_of-same : (es es' : List E) → map f es' ≡ map f es → count_of f es' ≡ count_of f es
+  count_of-same es es' same = count_of-lists es' ∙ ap (λ rows. sum_by (λ ms. length ms) rows) same ∙ sym (count_of-lists es)
+
 -- what waits at the outs up to the one that was flushed last
 pub sum_by_more_set : {E : Type 0} (f : E → ℕ) (es : List E) (k : ℕ) (e : E) → k < length es → sum_by f (take (k + 1) (set es k e)) ≡ sum_by f (take k es) + f e
 sum_by_more_set f es k e below =

@@ -23,6 +23,13 @@ pub trait Inbox<T> {
     fn try_take(&mut self) -> Option<Msg<T>>
         ensures link { link self.new ≡ link self.old }
         ensures takes { Takes (got self.old) (known self.old) result (got self.new) (known self.new) };
+
+    /// Tells the thread of the writing end of all that was taken, where it may wait for that: this one is about to wait.
+    fn tell(&mut self)
+        ensures link { link self.new ≡ link self.old }
+        ensures got { got self.new ≡ got self.old }
+        ensures known { known self.new ≡ known self.old }
+    {}
 }
 
 /// The writing end of a channel.

@@ -111,6 +111,7 @@ impl<I: Inbox<T>, O: Outbox<T>, T> Ports<T> for OwnPorts<I, O, T> {
     }
 
     fn flush(&mut self) -> bool {
+        tell_all(&mut self.ins);
         flush_all(&mut self.outs)
     }
 }
@@ -140,6 +141,18 @@ fn put_at<O: Outbox<T>, T>(outs: &mut Vec<O>, k: usize, m: Msg<T>) -> Put<T>
     ensures others { OthersStay k (map O.room outs.old.items) (map O.room outs.new.items) }
 {
     outs[k].try_put(m)
+}
+
+// Tells the writers of all ins of what was taken.
+fn tell_all<I: Inbox<T>, T>(ins: &mut Vec<I>)
+    ensures link { map I.link ins.new.items ≡ map I.link ins.old.items }
+    ensures gots { map I.got ins.new.items ≡ map I.got ins.old.items }
+    ensures knowns { map I.known ins.new.items ≡ map I.known ins.old.items }
+    ensures counted { count_of I.got ins.new.items ≡ count_of I.got ins.old.items }
+{
+    for inn in ins.iter_mut() {
+        inn.tell();
+    }
 }
 
 // Hands over what waits at each out. It answers whether nothing is left.

@@ -62,7 +62,8 @@ pub trait Ports<T> {
         ensures gots { gots self.new ≡ gots self.old }
         ensures knowns { knowns self.new ≡ knowns self.old };
 
-    /// Hands over what waits at the outs, as far as there is room. It answers whether nothing is left.
+    /// Hands over what waits at the outs, as far as there is room, and tells those behind the ins of what was taken. It answers
+    /// whether nothing is left at the outs.
     fn flush(&mut self) -> bool
         ensures link { link self.new ≡ link self.old }
         ensures gots { gots self.new ≡ gots self.old }

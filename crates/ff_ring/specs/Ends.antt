@@ -1,5 +1,5 @@
 -- What contracts see of the two ends of a ring.
-use Rattle.std.specs.Prelude.{◌≡◌, ℕ, ◌+◌, ◌-◌, ◌<◌, ◌≤◌, Bool, IsTrue, List, ◌++◌, length, min}
+use Rattle.std.specs.Prelude.{◌≡◌, ◌⊎◌, ℕ, ◌+◌, ◌-◌, ◌<◌, ◌≤◌, Bool, IsTrue, List, ◌++◌, length, min}
 use Rattle.std.specs.List.{flat_map}
 use Rattle.std.proofs.Common.{deque_items, deque_len, deque_capacity}
 use Rattle.ff_rec.specs.Streams.{IsOpenMsg}
@@ -69,6 +69,19 @@ module _ {T : Type 0} where
   -- the ring that the reader reads
   abbrev pub read_ring : RingIn T → RingName
   read_ring inn = name_of inn.inlet.end.end
+
+  -- how many bundles can be handed over, so far as is known
+  abbrev pub hands_out : RingOut T → ℕ
+  hands_out out = hands_of out.outlet
+
+  -- the bundle isn't full, and the ring has two slots or more
+  pub record HasFill (out : RingOut T) : Type 0 where
+    pub place : deque_len out.bundle < deque_capacity out.bundle
+    pub double : 1 < slots_of out.outlet
+
+  -- a put leaves as many, or one fewer where nothing waits behind it
+  abbrev pub KeepsHands : RingOut T → RingOut T → Type 0
+  KeepsHands out out' = (hands_out out ≤ hands_out out') ⊎ ((hands_out out ≤ hands_out out' + 1) × (waiting_of out' ≡ 0))
 
   -- there is a place for one message more
   pub record HasPlace (out : RingOut T) : Type 0 where

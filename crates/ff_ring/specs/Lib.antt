@@ -1,6 +1,7 @@
 pub mod Bundles
 pub mod Ends
 pub mod Inlets
+pub mod Looking
 pub mod Names
 pub mod Outlets
 pub mod Pauses

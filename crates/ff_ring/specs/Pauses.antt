@@ -1,6 +1,7 @@
 -- What contracts see of pauses.
 use Rattle.std.specs.Prelude.{◌≡◌, ◌==◌, ◌*◌, ◌-◌, ℕ, Bool, true, false, not, nat_le, nat_lt, if◌then◌else◌}
 use Rattle.ff_ring.specs.declared.pause.Pause.{Pause}
+use Rattle.ff_ring.specs.Looking.{LooksState, looked, renewed_looks}
 
 -- how many spins its longest pause has
 abbrev pub most_of : Pause → ℕ
@@ -9,6 +10,10 @@ most_of p = p.most
 -- how many spins the next pause has
 abbrev pub spins_of : Pause → ℕ
 spins_of p = p.spins
+
+-- how it looks on behind its longest spins
+abbrev pub looks_of : Pause → LooksState
+looks_of p = p.looks
 
 -- whether it lay down since something was done and since it last slept
 abbrev pub lies_down : Pause → Bool
@@ -36,9 +41,13 @@ micros_of p = p.micros
 abbrev pub IsFresh : Pause → Type 0
 IsFresh p = (spins_of p ≡ 1) × (lies_down p ≡ false) × (has_napped p ≡ false) × (millis_of p ≡ 2) × (micros_of p ≡ 100)
 
+-- whether its spins may still grow
+abbrev pub spins_grow : Pause → Bool
+spins_grow p = nat_le (spins_of p) (most_of p)
+
 -- whether the next pause is spins
 abbrev pub spins_next : Pause → Bool
-spins_next p = nat_le (spins_of p) (most_of p)
+spins_next p = if spins_grow p then true else nat_lt 0 (looks_of p).left
 
 -- whether the thread lies down in the next pause
 abbrev pub lies_next : Pause → Bool
@@ -50,7 +59,14 @@ sleeps_next p = if spins_next p then false else lies_down p
 
 -- the spins behind the next pause
 abbrev pub spins_behind : Pause → ℕ
-spins_behind p = if spins_next p then 2 * spins_of p else spins_of p
+spins_behind p = if spins_grow p then 2 * spins_of p else spins_of p
+
+-- how it looks on behind the next pause, and once something was done
+abbrev pub looks_behind : Pause → LooksState
+looks_behind p = if spins_grow p then looks_of p else looked (looks_of p)
+
+abbrev pub looks_renewed : Pause → LooksState
+looks_renewed p = if spins_grow p then looks_of p else renewed_looks (looks_of p)
 
 -- whether it lies down behind the next pause
 abbrev pub lies_behind : Pause → Bool

@@ -20,13 +20,16 @@ const NOTED: u64 = 3;
 ///
 /// It also tells whether the thread rests. A thread rests only once a try found nothing that began after the last ring:
 /// a ring undoes what led there, and a try that began before it doesn't count. What was handed over before a ring is
-/// found by each try that begins after it. So a thread that rests has nothing to do but what others hand over later.
+/// found by each try that begins after it. So a thread that rests has nothing to do but what others hand over later. One that
+/// has ended has nothing more to do at all, and counts as one that rests.
 #[derive(Drop)]
 pub struct Bell {
     parker: Parker,
     state: AtomicU64,
     // Whether the thread found no room since it lay down.
     wants_room: AtomicBool,
+    // Whether it has ended. A word of its own, since a ring at that moment may write the state.
+    ended: AtomicBool,
 }
 
 impl Bell {
@@ -36,6 +39,7 @@ impl Bell {
             parker: Parker::new(),
             state: AtomicU64::new(WORKS),
             wants_room: AtomicBool::new(false),
+            ended: AtomicBool::new(false),
         }
     }
 
@@ -52,19 +56,22 @@ impl Bell {
     }
 
     /// Wakes the thread, where it found no room since it lay down. Room was made in a ring that it writes.
-    pub(crate) fn ring_for_room(&self) {
+    pub fn ring_for_room(&self) {
         if self.wants_room.load(Ordering::SeqCst) {
             self.ring();
         }
     }
 
     /// The thread found no room. It is to look once more behind this, since who made some may not have seen it.
-    pub(crate) fn wants_room(&self) {
+    pub fn wants_room(&self) {
         self.wants_room.store(true, Ordering::SeqCst);
     }
 
-    /// Whether the thread rests, which is noted.
+    /// Whether the thread rests, which is noted, or has ended.
     pub fn notes_rest(&self) -> bool {
+        if self.has_ended() {
+            return true;
+        }
         let state = &self.state;
         match state.compare_exchange(RESTS, NOTED, Ordering::SeqCst, Ordering::SeqCst) {
             Ok(_) => true,
@@ -72,9 +79,18 @@ impl Bell {
         }
     }
 
-    /// Whether the thread has rested ever since that was noted.
+    /// Whether the thread has rested ever since that was noted, or has ended.
     pub fn still_rests(&self) -> bool {
-        self.state.load(Ordering::SeqCst) == NOTED
+        self.has_ended() || self.state.load(Ordering::SeqCst) == NOTED
+    }
+
+    /// The thread has ended. It counts as one that rests from now on, whoever rings.
+    pub fn ends(&self) {
+        self.ended.store(true, Ordering::SeqCst);
+    }
+
+    fn has_ended(&self) -> bool {
+        self.ended.load(Ordering::SeqCst)
     }
 
     /// The thread is about to try once more.

@@ -5,6 +5,7 @@
 mod bell;
 mod bundle;
 mod inlet;
+mod looks;
 mod making;
 mod outlet;
 mod pause;

@@ -64,6 +64,17 @@ impl<T> Outlet<T> {
         self.sees_room()
     }
 
+    /// Whether two bundles could be handed over.
+    #[inline(always)]
+    pub(crate) fn has_two(&mut self) -> bool
+        ensures looked { Looks self.old self.new }
+        ensures reader { self.new.reader ≡ self.old.reader }
+        ensures value { IsTrue result ↔ (1 < hands_of self.new) }
+    {
+        (self.end.cached_slots() >= 2 || self.end.slots() >= 2)
+            && (self.spares.cached_slots() >= 2 || self.spares.slots() >= 2)
+    }
+
     fn sees_room(&mut self) -> bool
         ensures looked { Looks self.old self.new }
         ensures reader { self.new.reader ≡ self.old.reader }

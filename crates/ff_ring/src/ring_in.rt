@@ -36,7 +36,7 @@ impl<T: Drop> Drop for RingIn<T> {
 
 impl<T> RingIn<T> {
     ghost use Rattle.std.specs.Prelude.{◌∷◌, ◌++◌, [], length, true, ◌↔◌};
-    ghost use Rattle.rtrb.specs.Ring.{known_items};
+    ghost use Rattle.rtrb.specs.Ring.{known_items, consumer_capacity};
     ghost use Rattle.ff_ring.specs.Ends.{got_of, known_of, there_of, untold_in, is_eager_in, read_ring};
 
     /// An end that is eager, that nothing reached, with an empty block.
@@ -64,6 +64,13 @@ impl<T> RingIn<T> {
         ensures eager { is_eager_in self.new ≡ eager }
     {
         self.eager = eager;
+    }
+
+    /// Whether the ring has one slot.
+    pub fn is_single(&self) -> bool
+        ensures { IsTrue result ↔ (consumer_capacity self.now.inlet.end ≡ 1) }
+    {
+        self.inlet.end.capacity() == 1
     }
 
     /// Opens the next bundle.
@@ -113,7 +120,7 @@ impl<T> RingIn<T> {
     {
         if self.bundle.is_empty() {
             if self.inlet.end.is_empty() {
-                self.inlet.writer.tell();
+                self.tell();
             } else {
                 self.open_next();
             }
@@ -125,7 +132,7 @@ impl<T> Inbox<T> for RingIn<T> {
     ghost use Rattle.std.specs.Prelude.{None};
     ghost use Rattle.ff_port.specs.Channels.{Takes};
     ghost use Rattle.ff_ring.specs.Names.{RingName};
-    ghost use Rattle.ff_ring.specs.Ends.{got_of, known_of, untold_in, is_eager_in, read_ring};
+    ghost use Rattle.ff_ring.specs.Ends.{got_of, known_of, there_of, untold_in, is_eager_in, read_ring};
 
     ghost got = { λ inn. got_of inn };
 
@@ -145,5 +152,16 @@ impl<T> Inbox<T> for RingIn<T> {
     {
         self.look();
         self.bundle.pop_front()
+    }
+
+    fn tell(&mut self)
+        ensures link { read_ring self.new ≡ read_ring self.old }
+        ensures got { got_of self.new ≡ got_of self.old }
+        ensures known { known_of self.new ≡ known_of self.old }
+        ensures there { there_of self.new ≡ there_of self.old }
+        ensures told { untold_in self.new ≡ 0 }
+        ensures eager { is_eager_in self.new ≡ is_eager_in self.old }
+    {
+        self.inlet.writer.tell();
     }
 }

@@ -33,10 +33,10 @@ impl<T: Drop> Drop for RingOut<T> {
 }
 
 impl<T> RingOut<T> {
-    ghost use Rattle.std.specs.Prelude.{◌+◌, ◌-◌, min, ◌∷◌, ◌++◌, ◌≤◌, ℕ, IsTrue, MatchBool};
+    ghost use Rattle.std.specs.Prelude.{◌+◌, ◌-◌, min, ◌∷◌, ◌++◌, ◌≤◌, ◌↔◌, ℕ, IsTrue, MatchBool};
     ghost use Rattle.ff_ring.specs.Outlets.{hands_of, slots_of};
     ghost use Rattle.ff_rec.specs.Streams.{IsOpenMsg};
-    ghost use Rattle.ff_ring.specs.Ends.{put_of, held_of, room_of, waiting_of, untold_out, is_eager, written_ring, HasPlace, Gathers, IsMade};
+    ghost use Rattle.ff_ring.specs.Ends.{put_of, held_of, room_of, waiting_of, untold_out, is_eager, written_ring, HasPlace, Gathers, IsMade, hands_out, HasFill, KeepsHands};
 
     /// An end that is eager, with an empty bundle.
     pub(crate) fn new(outlet: Outlet<T>, bundle: Bundle<T>) -> RingOut<T>
@@ -63,9 +63,31 @@ impl<T> RingOut<T> {
         ensures held { held_of self.new ≡ held_of self.old }
         ensures room { room_of self.new ≡ room_of self.old }
         ensures made { (cap : ℕ) → IsMade cap self.old → IsMade cap self.new }
+        ensures fill { HasFill self.old → HasFill self.new }
+        ensures hands { hands_out self.new ≡ hands_out self.old }
         ensures eager { is_eager self.new ≡ eager }
     {
         self.eager = eager;
+    }
+
+    /// Whether two bundles more can be handed over.
+    #[inline(always)]
+    pub fn has_spare(&mut self) -> bool
+        ensures link { written_ring self.new ≡ written_ring self.old }
+        ensures put { put_of self.new ≡ put_of self.old }
+        ensures held { held_of self.new ≡ held_of self.old }
+        ensures fill { HasFill self.old → HasFill self.new }
+        ensures hands { hands_out self.old ≤ hands_out self.new }
+        ensures value { IsTrue result ↔ (1 < hands_out self.new) }
+    {
+        self.outlet.has_two()
+    }
+
+    /// Whether the ring has one slot.
+    pub fn is_single(&self) -> bool
+        ensures { IsTrue result ↔ (slots_of self.now.outlet ≡ 1) }
+    {
+        self.outlet.is_single()
     }
 
     // Room for one message more: a full bundle is handed over. It answers whether there is room.
@@ -76,6 +98,7 @@ impl<T> RingOut<T> {
         ensures room { room_of self.old ≤ room_of self.new }
         ensures eager { is_eager self.new ≡ is_eager self.old }
         ensures answer { MatchBool result (HasPlace self.new) (room_of self.new ≡ 0) }
+        ensures hands { HasFill self.old → HasFill self.new × (hands_out self.old ≤ hands_out self.new) × (held_of self.new ≡ held_of self.old) }
         ensures eager_told { IsTrue (is_eager self.old) → untold_out self.new ≤ untold_out self.old }
     {
         if self.outlet.is_single() {
@@ -96,6 +119,8 @@ impl<T> RingOut<T> {
         ensures room { room_of self.old ≤ room_of self.new + 1 }
         ensures eager { is_eager self.new ≡ is_eager self.old }
         ensures gathers { Gathers m self.new }
+        ensures hands { KeepsHands self.old self.new }
+        ensures fill { HasFill self.old → 0 < hands_out self.new → HasFill self.new }
         ensures told { ¬ IsOpenMsg m → waiting_of self.new ≡ 0 → untold_out self.new ≡ 0 }
         ensures eager_told { IsTrue (is_eager self.old) → untold_out self.new ≤ untold_out self.old }
     {
@@ -113,7 +138,8 @@ impl<T> Outbox<T> for RingOut<T> {
     ghost use Rattle.ff_rec.specs.Streams.{IsOpen, IsOpenMsg};
     ghost use Rattle.ff_port.specs.Channels.{Puts};
     ghost use Rattle.ff_ring.specs.Names.{RingName};
-    ghost use Rattle.ff_ring.specs.Ends.{put_of, room_of, waiting_of, untold_out, is_eager, written_ring, Gathers};
+    ghost use Rattle.ff_ring.specs.Ends.{put_of, room_of, waiting_of, untold_out, is_eager, written_ring, Gathers, hands_out, HasFill, KeepsHands};
+    ghost use Rattle.std.specs.Prelude.{◌+◌, min};
 
     ghost put = { λ out. put_of out };
 
@@ -136,6 +162,8 @@ impl<T> Outbox<T> for RingOut<T> {
             (put_of self.new) (room_of self.new) }
         ensures eager { is_eager self.new ≡ is_eager self.old }
         ensures gathers { Gathers m self.new }
+        ensures hands { HasFill self.old → KeepsHands self.old self.new }
+        ensures fill { HasFill self.old → 0 < hands_out self.new → HasFill self.new }
         ensures told { result ≡ Put.Done → ¬ IsOpenMsg m → waiting_of self.new ≡ 0 → untold_out self.new ≡ 0 }
         ensures eager_told { IsTrue (is_eager self.old) → untold_out self.new ≤ untold_out self.old }
     {
@@ -153,6 +181,9 @@ impl<T> Outbox<T> for RingOut<T> {
         ensures eager { is_eager self.new ≡ is_eager self.old }
         ensures room { room_of self.old ≤ room_of self.new }
         ensures no_room { IsFalse result → room_of self.new ≡ 0 }
+        ensures hands { hands_out self.old ≤ hands_out self.new + min 1 (waiting_of self.old) }
+        ensures fewer { waiting_of self.new ≤ waiting_of self.old }
+        ensures fill { HasFill self.old → HasFill self.new }
         ensures told { untold_out self.new ≡ 0 }
     {
         let all = self.bundle.is_empty() || self.outlet.hand_over(&mut self.bundle, self.eager);

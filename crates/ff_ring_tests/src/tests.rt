@@ -38,6 +38,7 @@ fn puts(out: &mut RingOut<u64>, number: u64) -> bool
 // Puts the numbers from 0 on until there is no room, and tells how many.
 fn fills(out: &mut RingOut<u64>) -> u64
     requires { IsOpen (put_of out.old) }
+    ensures { IsOpen (put_of out.new) }
 {
     for number in 0..10_000 {
         if !puts(out, number) {
@@ -221,6 +222,68 @@ fn pauses_spin_and_park(rt: HostRuntime) -> Result<(), Fail> {
             }
             pause.reset();
         }
+    }
+    Ok(())
+}
+
+// How many pauses there are until the thread lies down. It doesn't sleep.
+fn pauses_until_it_lies<R: Wait>(rt: &R, pause: &mut Pause) -> u64 {
+    pause.reset();
+    for count in 0..100 {
+        if pause.rest(rt) {
+            return count;
+        }
+    }
+    100
+}
+
+// Seven pauses with spins, and 64 more where it looks on. Where these found nothing the next wait has none, and then the next 3, 7, ..
+// 63; and from 1 on again once something came meanwhile.
+#[test]
+fn a_thread_looks_on_less_where_it_found_nothing(rt: HostRuntime) -> Result<(), Fail> {
+    let bell = Arc::new(rt.alloc(), Bell::new())?;
+    let mut pause = Pause::new(bell, Spins::Long, false);
+    for gaps in [&[0, 1, 3, 7, 15, 31, 63, 63], [0, 1, 3].as_slice()] {
+        for gap in gaps {
+            for _ in 0..*gap {
+                assert_eq!(rt; pauses_until_it_lies(&rt, &mut pause), 7);
+            }
+            assert_eq!(rt; pauses_until_it_lies(&rt, &mut pause), 71, "behind {gap}");
+        }
+        finds_while_it_looks_on(&rt, &mut pause);
+    }
+    Ok(())
+}
+
+// Waits until it looks on again, and finds something then.
+fn finds_while_it_looks_on<R: Wait>(rt: &R, pause: &mut Pause) {
+    for _ in 0..100 {
+        pause.reset();
+        for _ in 0..7 {
+            let _ = pause.rest(rt);
+        }
+        if !pause.rest(rt) {
+            break;
+        }
+    }
+    pause.reset();
+}
+
+// A thread that has ended counts as one that rests: one that worked, that lay down, and that slept; and whoever rings.
+#[test]
+fn a_thread_that_ended_rests(rt: HostRuntime) -> Result<(), Fail> {
+    for pauses in [0, 8, 9] {
+        let bell = Arc::new(rt.alloc(), Bell::new())?;
+        let mut pause = Pause::new(Arc::try_clone(&bell)?, Spins::Few, false);
+        for _ in 0..pauses {
+            let _ = pause.rest(&rt);
+        }
+        let before = bell.notes_rest();
+        pause.end();
+        let noted = bell.notes_rest();
+        bell.ring();
+        let seen = (before, noted, bell.still_rests(), bell.notes_rest());
+        assert_eq!(rt; seen, (false, true, true, true), "behind {pauses}");
     }
     Ok(())
 }

@@ -12,7 +12,8 @@ use std::{fs, io};
 /// What the name of a new file beside another ends in. A run that was killed may have left the first of them.
 pub const SUFFIXES: [&str; 4] = [".new", ".new2", ".new3", ".new4"];
 
-/// Puts a new file in the place of the old one, once all of it is on the disk. Until then the name holds what it held.
+/// Puts a new file in the place of the old one, with the rights of the old one, once all of it is on the disk. Until then the name
+/// holds what it held.
 pub fn replace<R: FileSystem>(
     alloc: Global,
     rt: &R,
@@ -20,7 +21,10 @@ pub fn replace<R: FileSystem>(
     bytes: &[u8],
 ) -> Result<(), StoreFault> {
     let (beside, mut file) = create_beside(alloc, rt, name)?;
-    let answer = fill(&mut file, bytes).and_then(|()| fs::rename(rt, beside.as_str(), name));
+    // The rights come first, so that nobody reads what the old file kept from him.
+    let answer = keep_rights(rt, name, &file)
+        .and_then(|()| fill(&mut file, bytes))
+        .and_then(|()| fs::rename(rt, beside.as_str(), name));
     if answer.is_err() {
         // What was begun isn't left behind. That this may fail too changes nothing.
         let _ = fs::remove_file(rt, beside.as_str());
@@ -44,6 +48,14 @@ fn create_beside<R: FileSystem>(
         }
     }
     Err(StoreFault::Failed)
+}
+
+// Gives the new file the rights of the file with this name, if there is one.
+fn keep_rights<R: FileSystem>(rt: &R, name: &str, file: &R::File) -> io::Result<()> {
+    match fs::metadata(rt, name) {
+        Ok(old) => file.set_permissions(old.permissions()),
+        Err(_) => Ok(()),
+    }
 }
 
 // Writes all bytes and waits until they are on the disk.

@@ -18,13 +18,22 @@ pub enum Way {
     /// The name stands for standard error. Opened anew, a file that it is led to would be written from its beginning
     /// by what comes after.
     StandardError,
-    /// The name is that of the very file that standard output or standard error is led to: a new file in its place would
-    /// lose what was written there.
+    /// The name is that of the very file that standard input, output or error is led to, or that was loaded: a new file in its
+    /// place would lose what is read from there or was written there.
     Never,
 }
 
-/// How to store this name.
-pub fn way_of<R: FileSystem>(rt: &R, name: &str) -> Way {
+/// A file of the machine, whatever its names are: its device, and its number there.
+pub type Identity = (u64, u64);
+
+/// The file that this name stands for, if there is one.
+pub fn identity_of<R: FileSystem>(rt: &R, name: &str) -> Option<Identity> {
+    let file = fs::metadata(rt, name).ok()?;
+    Some((file.dev(), file.ino()))
+}
+
+/// How to store this name, where this file was loaded.
+pub fn way_of<R: FileSystem>(rt: &R, name: &str, loaded: Option<Identity>) -> Way {
     let Ok(link) = fs::symlink_metadata(rt, name) else {
         return if is_of_system(name) {
             Way::Append
@@ -44,7 +53,7 @@ pub fn way_of<R: FileSystem>(rt: &R, name: &str) -> Way {
     if is_of_system(name) || !file.is_file() {
         return Way::Append;
     }
-    if is_file_of(rt, &file, "/dev/stdout") || is_file_of(rt, &file, "/dev/stderr") {
+    if is_of_stream(rt, &file) || loaded == Some((file.dev(), file.ino())) {
         return Way::Never;
     }
     if link.is_file() {
@@ -59,10 +68,14 @@ fn is_of_system(name: &str) -> bool {
     name.starts_with("/dev/") || name.starts_with("/proc/")
 }
 
+// Whether this is the file that a standard stream is led to.
+fn is_of_stream<R: FileSystem>(rt: &R, file: &Metadata) -> bool {
+    is_file_of(rt, file, "/dev/stdin")
+        || is_file_of(rt, file, "/dev/stdout")
+        || is_file_of(rt, file, "/dev/stderr")
+}
+
 // Whether this is the file that another name stands for.
 fn is_file_of<R: FileSystem>(rt: &R, file: &Metadata, name: &str) -> bool {
-    match fs::metadata(rt, name) {
-        Ok(other) => other.dev() == file.dev() && other.ino() == file.ino(),
-        Err(_) => false,
-    }
+    identity_of(rt, name) == Some((file.dev(), file.ino()))
 }

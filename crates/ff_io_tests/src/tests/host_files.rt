@@ -2,7 +2,9 @@ use super::asked::{Asked, Noting};
 use super::{check_load, check_refusal, check_store};
 use ff_io::{FileFault, Files, HostFiles, StoreFault};
 use std::fs;
-use std::os::unix::fs::symlink;
+use std::fs::Permissions;
+use std::os::unix::fs::{PermissionsExt, symlink};
+use std::rt::Files as FileSystem;
 use std::test::Fail;
 
 const NAME: &str = "ff_io_host_files_test";
@@ -19,6 +21,11 @@ fn file_is_stored_and_loaded(rt: HostRuntime) -> Result<(), Fail> {
     let mut files = HostFiles::new(rt.alloc(), rt, rt.stderr());
     check_store(&rt, &mut files, NAME, b"first");
     check_load(&rt, &mut files, NAME, 5, b"first");
+    // What was loaded is never replaced.
+    let refused = files.store(NAME, b"lost");
+    assert_eq!(rt; refused, Err(StoreFault::Failed));
+    check_load(&rt, &mut files, NAME, 5, b"first");
+    let mut files = HostFiles::new(rt.alloc(), rt, rt.stderr());
     check_store(&rt, &mut files, NAME, b"second");
     check_refusal(&rt, &mut files, NAME, 5, FileFault::TooLong);
     check_load(&rt, &mut files, NAME, 6, b"second");
@@ -40,6 +47,18 @@ fn file_that_stands_beside_is_left_alone(rt: HostRuntime) -> Result<(), Fail> {
     check_load(&rt, &mut files, "ff_io_beside_test.new", 9, b"another");
     fs::remove_file(&rt, "ff_io_beside_test")?;
     fs::remove_file(&rt, "ff_io_beside_test.new")?;
+    Ok(())
+}
+
+#[test]
+fn a_new_file_has_the_rights_of_the_old_one(rt: HostRuntime) -> Result<(), Fail> {
+    let mut files = HostFiles::new(rt.alloc(), rt, rt.stderr());
+    fs::write(&rt, "ff_io_rights_test", "old")?;
+    rt.set_permissions("ff_io_rights_test", Permissions::from_mode(0o600))?;
+    check_store(&rt, &mut files, "ff_io_rights_test", b"new");
+    let rights = fs::metadata(&rt, "ff_io_rights_test")?.permissions();
+    assert_eq!(rt; rights.mode() & 0o777, 0o600);
+    fs::remove_file(&rt, "ff_io_rights_test")?;
     Ok(())
 }
 

@@ -65,14 +65,53 @@ fn check_one(rt: &impl Abort, alloc: Global, op: &mut Op, want: &Want) -> Result
     check_answers(rt, alloc, &mut run(alloc, op, want.taken)?, want)
 }
 
+/// Each line is a copy, with `|` between its parts: an operation, the records that it takes before it is copied, those that
+/// the copy takes, and what the copy sends, with a `/` behind each record.
+pub fn check_copies(rt: &impl Abort, alloc: Global, copies: &str) -> Result<(), Fail> {
+    for line in copies.lines() {
+        let (op, records) = sides(line)?;
+        let (before, rest) = sides(records)?;
+        let (taken, sends) = sides(rest)?;
+        check_copy(rt, alloc, op, before, taken, sends)?;
+    }
+    Ok(())
+}
+
+// What an operation took stays unknown to its copy, of which nothing is asked before its first record.
+fn check_copy(
+    rt: &impl Abort,
+    alloc: Global,
+    op: &str,
+    before: &str,
+    taken: &str,
+    sends: &str,
+) -> Result<(), Fail> {
+    let mut first = operation(alloc, op)?;
+    run(alloc, &mut first, before)?;
+    let mut out = go_on(alloc, &mut copy_of(&first)?, taken)?;
+    expect_records(
+        rt,
+        &all_sends(alloc, &mut out)?,
+        sends,
+        "sent by a copy",
+        op,
+    );
+    Ok(())
+}
+
 fn record_of(alloc: Global, line: &str) -> Result<Record, Fail> {
     Ok(Record::of_line(alloc, split(line.as_bytes(), b'\n').0)?)
 }
 
 // What a node sends and rejects when it takes these records.
 fn run(alloc: Global, node: &mut impl Node, taken: &str) -> Result<Sends, Fail> {
-    let mut out = Sends::new(alloc, true);
     node.svc_init();
+    go_on(alloc, node, taken)
+}
+
+// What a node sends and rejects when it takes these records as it stands.
+fn go_on(alloc: Global, node: &mut impl Node, taken: &str) -> Result<Sends, Fail> {
+    let mut out = Sends::new(alloc, true);
     for line in taken.split_terminator('/') {
         let r = record_of(alloc, line)?;
         if node.svc(r, &mut out)? == Next::Eos {

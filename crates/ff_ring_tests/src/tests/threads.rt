@@ -4,8 +4,8 @@ ghost use Rattle.std.specs.Prelude.{◌≡◌, ◌≤◌, [], IfOk};
 ghost use Rattle.ff_rec.specs.Streams.{IsOpen};
 ghost use Rattle.ff_ring.specs.Ends.{put_of, written_ring, read_ring};
 
-use super::puts;
-use ff_port::{Inbox, Outbox, Put};
+use super::{fills, puts};
+use ff_port::{Inbox, Outbox, OwnPorts, Ports, Put};
 use ff_rec::{Msg, NoMemory};
 use ff_ring::{Bell, Pause, RingIn, RingOut, Spins, ring, settle};
 use std::alloc::Global;
@@ -245,5 +245,109 @@ fn a_nap_is_no_rest(rt: HostRuntime) -> Result<(), Fail> {
         );
         assert_eq!(rt; answers, (true, false));
     }
+    Ok(())
+}
+
+// A try at an in, where there is one.
+fn takes_at(ports: &mut OwnPorts<RingIn<u64>, RingOut<u64>, u64>, k: usize) -> bool {
+    k < ports.ins() && ports.try_take(k).is_some()
+}
+
+// Takes a few messages once the writer is seen to rest, flushes its ports as before a rest, and rests until the other ring has one.
+fn takes_a_few(
+    rt: &impl Wait,
+    mut ports: OwnPorts<RingIn<u64>, RingOut<u64>, u64>,
+    bell: &Bell,
+    writer: &Bell,
+) -> u64 {
+    for _ in rt.forever() {
+        if writer.notes_rest() {
+            break;
+        }
+        hint::spin_loop();
+    }
+    let mut taken = 0u64;
+    for _ in 0..33 {
+        if takes_at(&mut ports, 0) {
+            taken = taken.saturating_add(1);
+        }
+    }
+    ports.flush();
+    let mut tried = false;
+    for _ in rt.forever() {
+        if takes_at(&mut ports, 1) {
+            break;
+        }
+        tried = sleeps(rt, bell, tried);
+    }
+    taken
+}
+
+// Puts numbers until there is no room, sleeps until there is some, and puts one message on the other ring then.
+fn fills_and_waits(
+    rt: &impl Wait,
+    mut out: RingOut<u64>,
+    mut other: RingOut<u64>,
+    bell: &Bell,
+) -> bool
+    requires open { IsOpen (put_of out) }
+    requires other { IsOpen (put_of other) }
+{
+    fills(&mut out);
+    let mut tried = false;
+    for _ in rt.forever() {
+        if puts(&mut out, 0) {
+            break;
+        }
+        tried = sleeps(rt, bell, tried);
+    }
+    matches!(other.try_put(Msg::Eos), Put::Done)
+}
+
+// The ends of two rings that don't tell of each bundle and block, from one thread to another.
+fn two_rings(
+    alloc: Global,
+    writer: &Arc<Bell, Global>,
+    reader: &Arc<Bell, Global>,
+) -> Result<
+    (
+        RingOut<u64>,
+        RingOut<u64>,
+        OwnPorts<RingIn<u64>, RingOut<u64>, u64>,
+    ),
+    NoMemory,
+>
+    ensures first { IfOk result (λ r. put_of r.0 ≡ []) }
+    ensures second { IfOk result (λ r. put_of r.1 ≡ []) }
+{
+    let (mut out, mut inn) = ring(alloc, 512, Arc::try_clone(writer)?, Arc::try_clone(reader)?)?;
+    let (other, last) = ring(alloc, 512, Arc::try_clone(writer)?, Arc::try_clone(reader)?)?;
+    out.set_eager(false);
+    inn.set_eager(false);
+    let mut ins = Vec::with_capacity(alloc, 2)?;
+    ins.push(inn)?;
+    ins.push(last)?;
+    Ok((out, other, OwnPorts::new(ins, Vec::new(alloc))))
+}
+
+// Two blocks of sixteen came back, of which an end that gathers doesn't tell by itself. A unit that flushes its ports before it rests tells
+// of them, so that the writer wakes.
+#[test]
+fn a_rest_leaves_no_room_untold(rt: HostRuntime) -> Result<(), Fail> {
+    let rt = &rt;
+    let alloc = rt.alloc();
+    let writer = Arc::new(alloc, Bell::new())?;
+    let reader = Arc::new(alloc, Bell::new())?;
+    let (out, other, ports) = two_rings(alloc, &writer, &reader)?;
+    let bell = Arc::try_clone(&writer)?;
+    let answers = thread::join(
+        rt,
+        move || -> bool
+            requires open { IsOpen (put_of out) }
+            requires other { IsOpen (put_of other) }
+        { fills_and_waits(rt, out, other, &writer) },
+        move || takes_a_few(rt, ports, &reader, &bell),
+    );
+    assert_eq!(rt; answers, (true, 33));
     Ok(())
 }
