@@ -1,6 +1,6 @@
 -- What happened to a scheduler: tasks were fed in, tasks were given out by numbers, and answers came back by these numbers. The newest
 -- event stands first.
-use Rattle.std.specs.Prelude.{◌≡◌, ℕ, List, [], ◌∷◌, ◌++◌}
+use Rattle.std.specs.Prelude.{◌≡◌, ℕ, ◌⊎◌, List, [], ◌∷◌, ◌++◌}
 use Rattle.std.specs.List.{AllByRecursion}
 use Rattle.ff_net.specs.Logs.{Within}
 
@@ -54,3 +54,17 @@ IsNew id log = AllByRecursion (λ n. ¬ (n ≡ id)) (numbers log)
 -- nothing is left to be given, and nothing is out
 abbrev pub IsIdle : {T A : Type 0} → List T → List (SchedEvent T A) → Type 0
 IsIdle made log = NoneReady made log × NoneOut log
+
+-- a task was given with this number
+abbrev pub HasGiven : {T A : Type 0} → ℕ → T → List (SchedEvent T A) → Type 0
+HasGiven id t [] = ⊥
+HasGiven id t (Offered u ∷ log) = HasGiven id t log
+HasGiven id t (Given i u ∷ log) = ((i ≡ id) × (u ≡ t)) ⊎ HasGiven id t log
+HasGiven id t (Back i a ∷ log) = HasGiven id t log
+
+-- each answer that came back is what `f` gives for the task that had been given with its number
+abbrev pub AreAnswered : {T A : Type 0} → (T → A) → List (SchedEvent T A) → Type 0
+AreAnswered f [] = Unit {0}
+AreAnswered f (Offered u ∷ log) = AreAnswered f log
+AreAnswered f (Given i u ∷ log) = AreAnswered f log
+AreAnswered {T} f (Back i a ∷ log) = ((t : T) × HasGiven i t log × (a ≡ f t)) × AreAnswered f log

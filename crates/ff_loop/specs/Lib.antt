@@ -37,4 +37,5 @@ pub mod WrapFitsLaws
 pub mod WrapReadyLaws
 pub mod WrapAbortLaws
 pub mod WrapKindLaws
+pub mod WrapShortLaws
 pub mod WrapMasterLaws

@@ -19,6 +19,7 @@ use Rattle.ff_unit.specs.StageKeptLaws as stages
 use Rattle.ff_unit.specs.StageKindLaws.{opening_stage-step, taken-step, told-step}
 use Rattle.ff_unit.specs.StageLaws.{IsUnit-stage}
 use Rattle.ff_unit.specs.StagePorts.{StageReady}
+use Rattle.ff_unit.specs.StageShortLaws.{short_of-ends, short_stage-step, live_stage-step}
 use Rattle.ff_unit.specs.StageTiedLaws.{TiedAt}
 use Rattle.ff_unit.specs.StageUnit.{stage_does}
 use Rattle.ff_unit.specs.Units.{IsUnit, Ran, HasRejects, HasAbort, TookAbort}
@@ -189,5 +190,9 @@ module _ {N : Type 0} (b : Behaviour N) (kind : KeepsKind b) (law : (o : N) → 
     whole = whole-worker;
     rejects_are = rejects-worker;
     causes = causes-worker;
+    not_short = λ u. (refl, refl);
+    short_ends = λ u. short_of-ends u.mode u.fin;
+    short_by = short_stage-step b (Mark ∷ []);
+    asks_kept = live_stage-step b (Mark ∷ []);
     aborts_by = Leads-aborted_stage b (Mark ∷ []);
   }

@@ -1,21 +1,25 @@
 -- What the master of a wrap took and put at any moment is by its log.
-use Rattle.std.specs.Prelude.{◌≡◌, ◌<◌, ◌≤◌, ℕ, suc, Bool, true, false, List, [], ◌++◌, length, slice_index_or}
+use Rattle.std.specs.Prelude.{◌≡◌, ◌⊎◌, ◌<◌, ◌≤◌, ℕ, suc, Bool, true, false, List, [], ◌++◌, length, slice_index_or}
 use Rattle.std.specs.List.{AllByRecursion}
-use Rattle.std.proofs.Common.{refl, sym, ap, ◌∙◌, subst, arith, append-nil}
+use Rattle.std.proofs.Common.{refl, sym, ap, ◌∙◌, subst, ⊎_elim, arith, append-nil}
+use Rattle.std.proofs.lemmas.Bool.{false≢true}
 use Rattle.ff_rec.specs.Lines.{Rec}
 use Rattle.ff_rec.specs.Streams.{GoesOn, at, carried, closed, unaborted}
 use Rattle.ff_rec.specs.declared.msg.Msg.TheVariants.{Eos as EosMsg}
 use Rattle.ff_net.specs.Logs.{AreMasterIns, BeginsLogged, BeginsMaster, BeginsWhole, HasEos, IsDone, came, came_out, fed, given_to, got_from}
 use Rattle.ff_node.specs.Fits.{IsItemOrMark, grouped}
 use Rattle.ff_node.specs.Runs.{Message, AllGoOn}
-use Rattle.ff_unit.specs.Closing.{any_live}
+use Rattle.ff_port.specs.declared.answers.End.{End}
+use Rattle.ff_port.specs.declared.answers.End.TheVariants.{Eos, Abort, Memory}
+use Rattle.ff_unit.specs.Closing.{any_live, is_memory}
 use Rattle.ff_unit.specs.DealPairLaws.{Pair, IsInner, on, on-append, AllByRecursion-front, IsOpen-on}
 use Rattle.ff_unit.specs.MessageLaws.{IsOpen-carried, unaborted-closed}
+use Rattle.ff_unit.specs.Units.{TookAbort}
 use Rattle.ff_unit.specs.declared.mode.Mode.{Mode}
 use Rattle.ff_unit.specs.declared.mode.Mode.TheVariants.{Live, Shut, Cut}
 use Rattle.ff_loop.specs.Rounds.{IsLogged, test_of, limit_of, workers_of, log_of, taken_of, results_of}
-use Rattle.ff_loop.specs.WrapMasters.{WrapState, part_at}
-use Rattle.ff_loop.specs.WrapPortLaws.{HasEos-closed, HasEos-open, HasEos-put, BeginsWhole-put, BeginsWhole-carried, BeginsWhole-ended, HoldsFed-ended, HoldsFed-begins, AnswersWhole-begins, AnswersShut-begins, IsTold-other, AllGoOn-at}
+use Rattle.ff_loop.specs.WrapMasters.{WrapState, BeginsWrap, part_at}
+use Rattle.ff_loop.specs.WrapPortLaws.{HasEos-closed, HasEos-open, HasEos-put, BeginsWhole-put, BeginsWhole-carried, BeginsWhole-ended, HoldsFed-ended, HoldsFed-begins, HoldsFed-only, AnswersWhole-begins, AnswersShut-begins, IsTold-other, AllGoOn-at}
 use Rattle.ff_loop.specs.WrapTiedLaws.{TiedShut, TiedAt, IsTied, end_by}
 
 module _ (u : WrapState) (g : List (List Message)) (ps : List Pair) (l : IsLogged u.round) where
@@ -127,6 +131,19 @@ module _ (u : WrapState) (g : List (List Message)) (ps : List Pair) (l : IsLogge
   all-at Shut t h within xs goes = all-shut t h within xs goes
   all-at Cut t h within xs goes = absurd (t.last_open (HasEos-put (workers_of u.round) ps u.held h))
 
+  -- until it was cut off it fed all that it took
+  all-fed : (mode : Mode) → TiedAt mode u g ps → u.end ≡ Eos → (xs : List Rec) → GoesOn (unaborted (at g 0)) (carried xs)
+      → (unaborted (at g 0) ≡ carried (fed (log_of u.round))) ⊎ (unaborted (at g 0) ≡ closed (carried (fed (log_of u.round))))
+  all-fed Live t end xs goes = HoldsFed-only (slice_index_or u.live 0 false) (at g 0) (fed (log_of u.round)) xs t.0.fed_in goes
+  all-fed Shut t end xs goes = HoldsFed-only false (at g 0) (fed (log_of u.round)) xs t.fed_in goes
+  all-fed Cut t end xs goes = absurd (t.end end)
+
+-- one that neither took an Abort nor was told to nor is short of memory will end by Eos
+ends-by_eos : (end : End) → (end ≡ Abort → ⊥) → is_memory end ≡ false → end ≡ Eos
+ends-by_eos Eos other enough = refl
+ends-by_eos Abort other enough = absurd (other refl)
+ends-by_eos Memory other enough = absurd (false≢true (sym enough))
+
 -- by its log it begins to fit
 module _ (u : WrapState) (gots puts : List (List Message)) (t : IsTied u gots puts) where
   begins-ins : (ins : List (List Message)) → AllGoOn gots ins → AreMasterIns (workers_of u.round) ins
@@ -153,11 +170,23 @@ module _ (u : WrapState) (gots puts : List (List Message)) (t : IsTied u gots pu
       fed_goes : GoesOn (unaborted (at gots 0)) (carried are.records)
       fed_goes = subst (GoesOn (unaborted (at gots 0))) are.fed_in (AllGoOn-at gots ins 0 (omega (arith, t.ins)) goes)
 
-  pub wrap-begins : BeginsMaster (workers_of u.round) (limit_of u.round) (test_of u.round) (log_of u.round) gots puts
-  wrap-begins = record {
+  begins-logged : BeginsMaster (workers_of u.round) (limit_of u.round) (test_of u.round) (log_of u.round) gots puts
+  begins-logged = record {
     legal = t.logged.legal;
     tasks = λ w below.
         subst (λ l. BeginsWhole (unaborted l) (given_to w (log_of u.round))) (sym (t.puts_are.each w (omega (arith, below))))
         (tasks-at u gots t.given t.logged u.mode t.tied w below);
     by = begins-ins;
+  }
+
+  -- it is neither told to abort nor took an Abort
+  no-abort : u.told ≡ false → (TookAbort gots → ⊥) → u.end ≡ Abort → ⊥
+  no-abort told none e = ⊎_elim (λ (h : u.told ≡ true). false≢true (sym told ∙ h)) (λ (h : TookAbort gots). none h) (t.cause e)
+
+  pub wrap-begins : BeginsWrap u gots puts
+  wrap-begins = record {
+    begins = begins-logged;
+    logs_all = λ told none enough ins goes are.
+        all-fed u gots t.given t.logged u.mode t.tied (ends-by_eos u.end (no-abort told none) enough) are.records
+        (subst (GoesOn (unaborted (at gots 0))) are.fed_in (AllGoOn-at gots ins 0 (omega (arith, t.ins)) goes));
   }

@@ -1,12 +1,15 @@
 -- The master of a wrap is a unit.
-use Rattle.std.specs.Prelude.{◌≡◌, ◌≤◌, ℕ, suc, List, [], IsSome}
+use Rattle.std.specs.Prelude.{◌≡◌, ◌≤◌, ℕ, suc, true, List, [], length, IsSome}
 use Rattle.std.proofs.Common.{refl, sym, subst}
 use Rattle.std.proofs.lemmas.List.{length-replicate}
+use Rattle.std.proofs.lemmas.Bool.{lt-ltb, ltb-true}
+use Rattle.ff_net.specs.Logs.{IsOverLimit, came}
 use Rattle.ff_node.specs.Runs.{Message, HasRun}
 use Rattle.ff_port.specs.declared.answers.End.TheVariants.{Abort}
 use Rattle.ff_unit.specs.Closing.{any_live, decided}
+use Rattle.ff_unit.specs.ShortLaws.{decided-memory}
 use Rattle.ff_unit.specs.Units.{IsUnit, Ran}
-use Rattle.ff_loop.specs.Rounds.{workers_of}
+use Rattle.ff_loop.specs.Rounds.{RoundState, test_of, limit_of, workers_of, log_of}
 use Rattle.ff_loop.specs.WrapAbortLaws.{Leads-aborted_wrap}
 use Rattle.ff_loop.specs.WrapBeginsLaws.{wrap-begins}
 use Rattle.ff_loop.specs.WrapFitsLaws.{wrap-whole, decided-is}
@@ -14,7 +17,12 @@ use Rattle.ff_loop.specs.WrapKeptLaws.{HasRun-tied_wrap}
 use Rattle.ff_loop.specs.WrapKindLaws.{opening-step, told-step, taken-step}
 use Rattle.ff_loop.specs.WrapMasters.{WrapState, WrapStep, is_past, opening_wrap, wrap_does}
 use Rattle.ff_loop.specs.WrapReadyLaws.{wrap-ready}
+use Rattle.ff_loop.specs.WrapShortLaws.{short_wrap-step, live_wrap-step}
 use Rattle.ff_loop.specs.WrapTiedLaws.{IsTied}
+
+-- what tells that more tasks came than the limit allows
+pub is_past-tells : (r : RoundState) → (is_past r ≡ true → IsOverLimit (limit_of r) (test_of r) (log_of r)) × (IsOverLimit (limit_of r) (test_of r) (log_of r) → is_past r ≡ true)
+is_past-tells r = (ltb-true (limit_of r) (length (came (test_of r) (log_of r))), lt-ltb (limit_of r) (length (came (test_of r) (log_of r))))
 
 module _ (u : WrapState) (gots puts : List (List Message)) (ran : Ran wrap_does u gots puts) where
   -- it has as many workers as before its first step
@@ -43,5 +51,9 @@ IsUnit-wrap = record {
   whole = λ u gots puts ran done fin. wrap-whole u gots puts (tied u gots puts ran) done fin;
   rejects_are = λ u gots puts ran done fin. record { number_is = refl; kept_are = λ keeps. refl; none = λ keeps. refl };
   causes = λ u gots puts ran fin. (tied u gots puts ran).cause (decided-is (any_live u.live) u.end Abort fin);
+  not_short = λ u. (refl, refl);
+  short_ends = λ u. decided-memory (any_live u.live) u.end;
+  short_by = short_wrap-step;
+  asks_kept = live_wrap-step;
   aborts_by = Leads-aborted_wrap;
 }

@@ -1,17 +1,19 @@
 -- The master of a wrap as a unit: its state, how it steps, and what it does.
 use Rattle.std.specs.Prelude.{◌≡◌, ◌≢◌, ◌⊎◌, ◌+◌, ◌<◌, ◌≤◌, nat_lt, ℕ, zero, suc, Bool, true, false, if◌then◌else◌, List, [], ◌∷◌, ◌++◌, length, replicate, slice_index, slice_index_or, slice_set, None, Some}
 use Rattle.ff_rec.specs.Lines.{Rec}
+use Rattle.ff_rec.specs.Streams.{at, carried, closed, unaborted}
 use Rattle.ff_rec.specs.declared.msg.Msg.TheVariants.{Item, Mark, Pick, Eos as EosMsg, Abort as AbortMsg}
-use Rattle.ff_net.specs.Logs.{FitsMaster, BeginsMaster, came, given_to, got_from}
+use Rattle.ff_net.specs.Logs.{Event, FitsMaster, BeginsMaster, AreMasterIns, came, fed, given_to, got_from}
 use Rattle.ff_net.specs.Logs.{Fed as EventFed, Got as EventGot}
 use Rattle.ff_net.specs.declared.net.Test.{Test}
-use Rattle.ff_node.specs.Runs.{Message, Act, Took, Gave, Refused, Idle, Told, Handed}
+use Rattle.ff_node.specs.Runs.{Message, AllGoOn, Act, Took, Gave, Refused, Idle, Told, Handed}
 use Rattle.ff_node.specs.Sends.{Sent, add, nothing_sent}
 use Rattle.ff_port.specs.declared.answers.End.{End}
 use Rattle.ff_port.specs.declared.answers.End.TheVariants.{Eos, Abort, Memory}
-use Rattle.ff_unit.specs.Closing.{IsLive, any_live, all_live, none_live, decided, AllDry}
+use Rattle.ff_unit.specs.Closing.{IsLive, any_live, all_live, none_live, decided, AllDry, is_memory}
 use Rattle.ff_unit.specs.Deals.{on_outs, AreOpenOuts, MayBeRefused}
-use Rattle.ff_unit.specs.Units.{Doing, Known}
+use Rattle.ff_unit.specs.StageUnit.{is_live}
+use Rattle.ff_unit.specs.Units.{Doing, Known, TookAbort}
 use Rattle.ff_unit.specs.declared.mode.Mode.{Mode}
 use Rattle.ff_unit.specs.declared.mode.Mode.TheVariants.{Live, Shut, Cut}
 use Rattle.ff_loop.specs.Masters.{opened_master}
@@ -226,6 +228,16 @@ WrapStalls [] false live before after = after.waiting ≢ 0
 abbrev pub aborted_wrap : WrapState → WrapState
 aborted_wrap u = record u { live = none_live (suc (workers_of u.round)); mode = Cut; end = Abort; done = true; told = true }
 
+-- all that it took at in 0 was fed in, and behind it at most Eos came, where what it took begins what its ins may carry
+abbrev pub FedAll : ℕ → List Event → List (List Message) → Type 0
+FedAll n log gots = (ins : List (List Message)) → AllGoOn gots ins → AreMasterIns n ins
+    → (unaborted (at gots 0) ≡ carried (fed log)) ⊎ (unaborted (at gots 0) ≡ closed (carried (fed log)))
+
+-- by its log it begins to fit; and it logs all that it takes, until it takes an Abort, is told to abort, or is short of memory
+pub record BeginsWrap (u : WrapState) (gots puts : List (List Message)) : Type 0 where
+  pub begins : BeginsMaster (workers_of u.round) (limit_of u.round) (test_of u.round) (log_of u.round) gots puts
+  pub logs_all : u.told ≡ false → (TookAbort gots → ⊥) → is_memory u.end ≡ false → FedAll (workers_of u.round) (log_of u.round) gots
+
 -- what the master of a wrap does: by its log it fits, and begins to fit
 abbrev pub wrap_does : Doing WrapState
 wrap_does = record {
@@ -238,6 +250,8 @@ wrap_does = record {
   done = λ u. u.done;
   told = λ u. u.told;
   aborted = aborted_wrap;
+  short = λ u. is_memory u.end;
+  asks = λ u. is_live u.mode;
   rejects = λ u. 0;
   keeps = λ u. false;
   kept = λ u. [];
@@ -246,6 +260,6 @@ wrap_does = record {
   Ready = WrapReady;
   Stalls = λ u before after. WrapStalls u.held (any_live u.live) u.live before after;
   Fits = λ u. FitsMaster (workers_of u.round) (limit_of u.round) (test_of u.round) (log_of u.round);
-  Begins = λ u. BeginsMaster (workers_of u.round) (limit_of u.round) (test_of u.round) (log_of u.round);
+  Begins = BeginsWrap;
   rejected = λ u gots. [];
 }

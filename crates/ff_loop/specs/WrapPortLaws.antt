@@ -98,13 +98,22 @@ HoldsFed-ended ms xs records h goes =
     let same : records ≡ xs = sym (items-carried records) ∙ ap items all ∙ h.3 in
     h.1 ∙ ap closed (sym all ∙ ap (λ l. carried l) same)
 
-pub HoldsFed-begins : (live : Bool) (ms : List Message) (xs records : List Rec) → HoldsFed live ms xs → GoesOn (unaborted ms) (carried records)
-    → (more : List Message) × (unaborted ms ≡ carried xs ++ more)
-HoldsFed-begins true ms xs records h goes =
+-- and nothing else came but Eos
+pub HoldsFed-open : (ms : List Message) (xs records : List Rec) → HoldsFed true ms xs → GoesOn (unaborted ms) (carried records) → unaborted ms ≡ carried xs
+HoldsFed-open ms xs records h goes =
     let rest = GoesOn-open ms [] ms (carried records) h.0 (sym (append-nil ms)) goes in
     let b = BeginsCarried-front ms rest.0 records rest.1 in
     let same : b.front ≡ xs = sym (items-carried b.front) ∙ ap items (sym b.is) ∙ h.1 in
-    ([], unaborted-open ms h.0 ∙ b.is ∙ ap (λ l. carried l) same ∙ sym (append-nil (carried xs)))
+    unaborted-open ms h.0 ∙ b.is ∙ ap (λ l. carried l) same
+
+pub HoldsFed-only : (live : Bool) (ms : List Message) (xs records : List Rec) → HoldsFed live ms xs → GoesOn (unaborted ms) (carried records)
+    → (unaborted ms ≡ carried xs) ⊎ (unaborted ms ≡ closed (carried xs))
+HoldsFed-only true ms xs records h goes = inl (HoldsFed-open ms xs records h goes)
+HoldsFed-only false ms xs records h goes = inr (ap unaborted (HoldsFed-ended ms xs records h goes) ∙ unaborted-closed (carried xs) (IsOpen-carried xs))
+
+pub HoldsFed-begins : (live : Bool) (ms : List Message) (xs records : List Rec) → HoldsFed live ms xs → GoesOn (unaborted ms) (carried records)
+    → (more : List Message) × (unaborted ms ≡ carried xs ++ more)
+HoldsFed-begins true ms xs records h goes = ([], HoldsFed-open ms xs records h goes ∙ sym (append-nil (carried xs)))
 HoldsFed-begins false ms xs records h goes =
     (Eos ∷ [], ap unaborted (HoldsFed-ended ms xs records h goes) ∙ unaborted-closed (carried xs) (IsOpen-carried xs))
 

@@ -1,7 +1,10 @@
 // The master of a wrap: it hands tasks to workers, and passes their results on.
-ghost use Rattle.std.specs.Prelude.{◌≡◌, ◌≤◌, [], suc, false, replicate, IfOk};
+ghost use Rattle.std.specs.Prelude.{◌≡◌, ◌≤◌, ◌↔◌, List, [], suc, false, replicate, IfOk, IsTrue};
+ghost use Rattle.ff_net.specs.Logs.{IsOverLimit};
+ghost use Rattle.ff_node.specs.Runs.{Message};
 ghost use Rattle.ff_node.specs.Sends.{nothing_sent};
 ghost use Rattle.ff_unit.specs.Units.{Ran};
+ghost use Rattle.ff_loop.specs.Rounds.{test_of, limit_of, log_of};
 ghost use Rattle.ff_loop.specs.WrapMasters.{opened_wrap, wrap_does};
 
 mod next;
@@ -105,9 +108,12 @@ impl WrapMaster {
         })
     }
 
-    /// Whether more tasks came than the limit allows.
+    /// Whether more tasks came than the limit allows, by the log of its run.
     pub fn over(&self) -> bool
-        ensures { result ≡ self.now.over }
+        ensures told { result ≡ self.now.over }
+        ensures past { (gots puts : List (List Message)) → Ran wrap_does self.now gots puts
+            → IsTrue result ↔ IsOverLimit (limit_of self.now.round) (test_of self.now.round)
+            (log_of self.now.round) }
     {
         self.over
     }

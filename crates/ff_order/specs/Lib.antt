@@ -14,4 +14,5 @@ pub mod OMergeKeptLaws
 pub mod OMergeStartLaws
 pub mod OMergeRunLaws
 pub mod OMergeFitsLaws
+pub mod OMergeShortLaws
 pub mod OMergeLaws

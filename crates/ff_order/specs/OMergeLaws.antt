@@ -7,11 +7,13 @@ use Rattle.ff_port.specs.declared.answers.End.{End}
 use Rattle.ff_port.specs.declared.answers.End.TheVariants.{Eos, Abort}
 use Rattle.ff_unit.specs.Closing.{any_live, none_live, decided}
 use Rattle.ff_unit.specs.FlagLaws.{any_live-none}
+use Rattle.ff_unit.specs.ShortLaws.{decided-memory}
 use Rattle.ff_unit.specs.Units.{IsUnit, Ran, told_by, taken_by, told_acts}
 use Rattle.ff_unit.specs.declared.mode.Mode.TheVariants.{Cut}
 use Rattle.ff_order.specs.OMerges.{OMergeState, OMergeStep, omerge_ins, opened_omerge, opening_omerge, aborted_omerge, omerge_does}
 use Rattle.ff_order.specs.OMergeFitsLaws.{OMergeReady-tied, BeginsToFit-tied, FitsWhole-tied}
 use Rattle.ff_order.specs.OMergeKeptLaws.{omerge_takes-kept}
+use Rattle.ff_order.specs.OMergeShortLaws.{short_omerge-step}
 use Rattle.ff_order.specs.OMergeRunLaws.{HasRun-tied}
 use Rattle.ff_order.specs.OMergeTiedLaws.{IsTied}
 
@@ -79,5 +81,9 @@ IsUnit-omerge = record {
   whole = λ u gots puts ran done fin. FitsWhole-tied u gots puts (tied u gots puts ran) done (decided-is (any_live u.live) u.end Eos fin);
   rejects_are = λ u gots puts ran done fin. record { number_is = refl; kept_are = λ keeps. refl; none = λ keeps. refl };
   causes = λ u gots puts ran fin. (tied u gots puts ran).cause (decided-is (any_live u.live) u.end Abort fin);
+  not_short = λ u. (refl, refl);
+  short_ends = λ u. decided-memory (any_live u.live) u.end;
+  short_by = short_omerge-step;
+  asks_kept = λ u act v s asks. asks;
   aborts_by = Leads-aborted;
 }

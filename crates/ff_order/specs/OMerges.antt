@@ -6,7 +6,7 @@ use Rattle.ff_node.specs.Fits.{FitsTurnMerge, FitsPickMerge}
 use Rattle.ff_node.specs.Runs.{Message, Act, Took, Gave, Refused, Idle, Told, Handed, BeginsToFit}
 use Rattle.ff_port.specs.declared.answers.End.{End}
 use Rattle.ff_port.specs.declared.answers.End.TheVariants.{Eos, Abort, Memory}
-use Rattle.ff_unit.specs.Closing.{IsLive, any_live, all_live, none_live, decided, AllDry}
+use Rattle.ff_unit.specs.Closing.{IsLive, any_live, all_live, none_live, decided, AllDry, is_memory}
 use Rattle.ff_unit.specs.Deals.{next_place}
 use Rattle.ff_unit.specs.StageSteps.{IsOpenFront}
 use Rattle.ff_unit.specs.Units.{Doing, Known}
@@ -173,6 +173,8 @@ omerge_does = record {
   done = λ u. u.done;
   told = λ u. u.told;
   aborted = aborted_omerge;
+  short = λ u. is_memory u.end;
+  asks = λ u. false;
   rejects = λ u. 0;
   keeps = λ u. false;
   kept = λ u. [];

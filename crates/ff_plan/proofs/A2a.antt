@@ -28,7 +28,7 @@ use Rattle.ff_plan.proofs.Shares.{Additive, total-weigh-share, total-weigh-addit
 use Rattle.ff_plan.proofs.Totals.{total, total-same}
 
 -- the right node of an all-to-all is one node, or several that run as one
-right_is_node : {N : Type 0} (b : Behaviour N) (r : Route) (t : Tree N) → PlainNode b t ⊎ KeyedNode b r t → is_node t ≡ true
+pub right_is_node : {N : Type 0} (b : Behaviour N) (r : Route) (t : Tree N) → PlainNode b t ⊎ KeyedNode b r t → is_node t ≡ true
 right_is_node b r t (inl plain) = plain.0
 right_is_node b r t (inr keyed) = ap is_node keyed.2
 
@@ -42,7 +42,7 @@ module _ {N : Type 0} (b : Behaviour N) (m : ℕ) (v : View N) (at : List ℕ) (
         ∙ total-weigh-additive (mean b m l) goes flow.dealt.are h
 
     -- and all that comes out is together what both mean
-    all_together : (xs : List Rec) (flow : Flows b m v at form n l r k t i o e second third fourth fifth xs) → Same (mean b m t (mean b m l xs)) flow.merged.ys
+    pub all_together : (xs : List Rec) (flow : Flows b m v at form n l r k t i o e second third fourth fifth xs) → Same (mean b m t (mean b m l xs)) flow.merged.ys
     all_together xs flow = record {
       by = λ h.
           sym (adds n flow.left.yss flow.middle.columns flow.middle.deals flow.middle.merges (mean b m l xs) flow.middle.are flow.middle.by (left_together xs flow) h)
@@ -66,7 +66,7 @@ module _ {N : Type 0} (b : Behaviour N) (m : ℕ) (v : View N) (at : List ℕ) (
 
 module _ {N : Type 0} (b : Behaviour N) (by_records : PlainGoesByRecords b) (by_counts : UnorderedGoesByCounts b) (by_keys : KeyedGoesByKeys b) (m : ℕ) where
   -- what the right node makes of the columns is together what it makes of all records
-  adds_up : (r : Route) (k : ℕ) (t : Tree N) → 1 ≤ k → has_wrap t ≡ false → PlainNode b t ⊎ KeyedNode b r t → AddsUp r k (mean b m t) × AddsUp r k (mean_rejected b m t)
+  pub adds_up : (r : Route) (k : ℕ) (t : Tree N) → 1 ≤ k → has_wrap t ≡ false → PlainNode b t ⊎ KeyedNode b r t → AddsUp r k (mean b m t) × AddsUp r k (mean_rejected b m t)
   adds_up r k t some free (inl plain) = (
     AddsUp-additive r k (mean b m t) (mean_additive b by_records m t plain.1 free),
     AddsUp-additive r k (mean_rejected b m t) (mean_rejected_additive b by_records m t plain.1 free),

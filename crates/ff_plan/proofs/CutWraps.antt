@@ -21,10 +21,10 @@ use Rattle.ff_net.specs.Places.{child}
 use Rattle.ff_net.specs.Tree.{Tree, Wrap}
 use Rattle.ff_plan.specs.declared.kind.UnitKind.TheVariants.{Worker}
 use Rattle.ff_plan.specs.Laying.{lay, copies}
+use Rattle.ff_plan.specs.LogLaws.{IsSound}
 use Rattle.ff_plan.specs.Rows.{range}
 use Rattle.ff_plan.proofs.EdgeLists.{AllOn-each}
 use Rattle.ff_plan.proofs.Fronts.{items_or_marks, IsOpen-carried, GoesOn-closed, GoesOn-open, HasEos-unaborted, before-eos, carried-front, closed-front}
-use Rattle.ff_plan.proofs.LogAnswers.{IsSound}
 use Rattle.ff_plan.proofs.LogLevels.{IsOver-came, Within-results, IsAll-done}
 use Rattle.ff_plan.proofs.Opens.{View, Known, HasAnswer, Outcome, LawOf}
 use Rattle.ff_plan.proofs.PlainWorkers.{worker_sends, mean-worker}

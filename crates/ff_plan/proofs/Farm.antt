@@ -46,7 +46,7 @@ module _ {N : Type 0} (b : Behaviour N) where
 
   module _ (m : ℕ) (v : View N) where
     -- the shares that a farm's deal puts on its edges
-    deals_by_schedule : (s : Sched) (at : List ℕ) (t : Tree N) (log : List Event) (i e n : ℕ) (xs : List Rec)
+    pub deals_by_schedule : (s : Sched) (at : List ℕ) (t : Tree N) (log : List Event) (i e n : ℕ) (xs : List Rec)
         → KnownOf b m v (deal_kind s) (laid (deal_kind s) (i ∷ []) (range e n) at t) log → v.In i (carried xs) → (picks : List ℕ) × Deals v e n picks xs
     deals_by_schedule InTurn at t log i e n xs known from =
         (turns n (length xs), deals_in_turn b m v at t log i e n xs known from)

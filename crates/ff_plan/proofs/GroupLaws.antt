@@ -66,7 +66,7 @@ module _ {N : Type 0} (b : Behaviour N) (keeps : KeepsKind b) (combed : CombIsPi
           sym (append-nil held) ∙ ap (λ ys. node_rejected (comb_node b) (group_of b t) ys ++ []) (sym (items-grouped gs) ∙ ap items is_ms))))
 
   -- one node, or several that run as one
-  groups_of_node : (t : Tree N) → is_node t ≡ true → Good b t → ArePlain b t → (place : List ℕ) (i o e : ℕ) (logs : List (List Event)) (gs : List (List Rec))
+  pub groups_of_node : (t : Tree N) → is_node t ≡ true → Good b t → ArePlain b t → (place : List ℕ) (i o e : ℕ) (logs : List (List Event)) (gs : List (List Rec))
       → Known b m v (lay place t i o e) logs → v.In i (grouped gs) → GivesGroups b v (mean b m t) (mean_rejected b m t) (lay place t i o e) o gs
   groups_of_node t is good plain place i o e logs gs known from =
       let P : List (Laid N) → Type 0 = λ ls. Known b m v ls logs → GivesGroups b v (mean b m t) (mean_rejected b m t) ls o gs in

@@ -1,4 +1,4 @@
-mod Opens
+pub mod Opens
 mod Totals
 mod Shares
 mod Columns
@@ -8,7 +8,7 @@ mod MeanSame
 mod Filters
 mod Keyed
 mod Messages
-mod UnitLists
+pub mod UnitLists
 mod Single
 mod EdgeLists
 mod Dealing
@@ -18,7 +18,7 @@ mod Sets
 mod Carries
 mod Pipe
 mod Copies
-mod Views
+pub mod Views
 mod Runs
 mod Farm
 mod LogCounts
@@ -30,7 +30,7 @@ mod Fronts
 pub mod PlainWorkers
 mod Wraps
 mod WholeWraps
-mod CutWraps
+pub mod CutWraps
 mod Routes
 mod SetFlows
 mod A2a
@@ -53,5 +53,11 @@ mod Alone
 mod GroupLaws
 mod ODealing
 mod OFarm
-mod NetLaws
-mod NodeFacts
+pub mod NetLaws
+pub mod NodeFacts
+mod Counted
+pub mod Traffic
+mod OrderTraffic
+pub mod NetTraffic
+mod MasterLogs
+mod WrapLogs

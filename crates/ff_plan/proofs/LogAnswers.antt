@@ -1,5 +1,5 @@
 -- Logs in which the answers are those that the tasks get: there is no answer without its task.
-use Rattle.std.proofs.Common.{◌≡◌, ℕ, ◌+◌, ◌<◌, ◌≤◌, ◌==◌, if◌then◌else◌, not, List, [], ◌∷◌, ◌++◌, map, length, filter, refl, sym, ap, ◌∙◌, arith, append_assoc, length-append}
+use Rattle.std.proofs.Common.{◌≡◌, ℕ, ◌+◌, ◌<◌, ◌≤◌, ◌==◌, if◌then◌else◌, not, List, [], ◌∷◌, ◌++◌, map, length, filter, refl, sym, ap, ◌∙◌, arith, append_assoc, append-nil, length-append}
 use Rattle.std.proofs.lemmas.List.{map-append, length-map}
 use Rattle.ff_rec.specs.Lines.{Rec}
 use Rattle.ff_rec.specs.Weights.{weigh}
@@ -7,12 +7,9 @@ use Rattle.ff_rec.proofs.WeightLaws.{weigh-append, weigh-map}
 use Rattle.ff_net.specs.declared.net.Test.{Test}
 use Rattle.ff_net.specs.Levels.{meets}
 use Rattle.ff_net.specs.Logs.{Event, Fed, Gave, Got, fed, given, given_to, got_from, came, came_out, IsLegal}
+use Rattle.ff_plan.specs.LogLaws.{IsSound}
 use Rattle.ff_plan.proofs.Totals.{total-same}
 use Rattle.ff_plan.proofs.LogCounts.{answers, total-≤, given_to-total, got_from-total, got_from-length}
-
--- a worker's answers so far are those that `send` has for the tasks it was given, in their order
-pub record IsSound (n : ℕ) (send : Rec → List Rec) (log : List Event) : Type 0 where
-  pub by : (w : ℕ) → w < n → (more : List (List Rec)) × (map send (given_to w log) ≡ got_from w log ++ more)
 
 none-left : {A : Type 0} (xs : List A) → length xs ≡ 0 → xs ≡ []
 none-left [] none = refl
@@ -45,6 +42,20 @@ module _ (n m : ℕ) (p : Test) (send : Rec → List Rec) where
         (extra ++ whole.0, whole.1 ∙ append_assoc (got_from j log) extra whole.0);
   }
 
+  -- a worker that answered as often as it was asked answered all its tasks
+  pub got_from-all : (log : List Event) → IsSound n send log → (j : ℕ) → j < n → length (got_from j log) ≡ length (given_to j log)
+      → got_from j log ≡ map send (given_to j log)
+  got_from-all log sound j below all =
+      let whole = sound.by j below in
+      let none : whole.0 ≡ [] = none-left whole.0 (omega (
+        arith,
+        all,
+        length-map (given_to j log) send,
+        ap length whole.1,
+        length-append (got_from j log) whole.0,
+      )) in
+      sym (append-nil (got_from j log)) ∙ ap (λ more. got_from j log ++ more) (sym none) ∙ sym whole.1
+
   module _ (log : List Event) (legal : IsLegal n m p log) (sound : IsSound n send log) (h : List Rec → ℕ) where
     -- a worker's answers weigh no more than those for all its tasks
     worker-answers : (j : ℕ) → j < n → weigh h (got_from j log) ≤ weigh (λ t. h (send t)) (given_to j log)
@@ -54,16 +65,7 @@ module _ (n m : ℕ) (p : Test) (send : Rec → List Rec) where
 
     -- and as much where it answered all
     worker-all : (j : ℕ) → j < n → length (got_from j log) ≡ length (given_to j log) → weigh h (got_from j log) ≡ weigh (λ t. h (send t)) (given_to j log)
-    worker-all j below all =
-        let whole = sound.by j below in
-        let none : whole.0 ≡ [] = none-left whole.0 (omega (
-          arith,
-          all,
-          length-map (given_to j log) send,
-          ap length whole.1,
-          length-append (got_from j log) whole.0,
-        )) in
-        omega (arith, weigh-map h send (given_to j log), ap (weigh h) whole.1, weigh-append h (got_from j log) whole.0, ap (weigh h) none)
+    worker-all j below all = ap (weigh h) (got_from-all log sound j below all) ∙ weigh-map h send (given_to j log)
 
     -- all answers weigh no more than those for all tasks
     pub answers-within : weigh h (answers log) ≤ weigh (λ t. h (send t)) (given log)

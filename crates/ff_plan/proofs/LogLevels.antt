@@ -5,13 +5,14 @@ use Rattle.std.specs.List.{flat_map}
 use Rattle.std.proofs.lemmas.Bool.{cases_lt, cases_Bool, cond-true, cond-false}
 use Rattle.ff_rec.specs.Lines.{Rec}
 use Rattle.ff_rec.specs.Weights.{Same, weigh}
-use Rattle.ff_rec.proofs.WeightLaws.{weigh-append, weigh-one}
+use Rattle.ff_rec.proofs.WeightLaws.{Same-sym, weigh-append, weigh-one}
 use Rattle.ff_net.specs.declared.net.Test.{Test}
 use Rattle.ff_net.specs.Levels.{meets, levels, IsOver, results}
 use Rattle.ff_net.specs.Logs.{Event, Fed, Gave, Got, fed, given, came, came_out, made, Within, IsLegal, IsDone}
+use Rattle.ff_plan.specs.LogLaws.{IsSound}
 use Rattle.ff_plan.proofs.LevelWeights.{round, left, levels-weigh, levels-more, levels-most, results-weigh}
 use Rattle.ff_plan.proofs.Withins.{Within-length}
-use Rattle.ff_plan.proofs.LogAnswers.{IsSound, IsSound-older, answers-within, answers-all, came-weigh, came_out-weigh}
+use Rattle.ff_plan.proofs.LogAnswers.{IsSound-older, answers-within, answers-all, came-weigh, came_out-weigh}
 
 -- one more task was within those that may be given, so it came
 gave-came : (m : ℕ) (p : Test) (t : Rec) (log : List Event) → Within (t ∷ given log) (made m p log) → Within (t ∷ given log) (came p log)
@@ -99,6 +100,7 @@ module _ (n m : ℕ) (p : Test) (send : Rec → List Rec) where
   -- a log that is done within the limit: the tasks are those of all levels, and what came out are the results
   pub record IsAll (log : List Event) : Type 0 where
     pub fine : ¬ IsOver (flat_map send) p m (fed log)
+    pub given_once : Same (came p log) (given log)
     pub tasks : Same (given log) (levels (flat_map send) p (suc m) (fed log))
     pub results : Same (results (flat_map send) p m (fed log)) (came_out p log)
 
@@ -140,6 +142,7 @@ module _ (n m : ℕ) (p : Test) (send : Rec → List Rec) where
     pub IsAll-done : IsAll log
     IsAll-done = record {
       fine = λ over. omega (arith, over, few-levels);
+      given_once = Same-sym given-came;
       tasks = record { by = given-same };
       results = record {
         by = λ h. omega (

@@ -51,7 +51,7 @@ pub record AreRouted {N : Type 0} (v : View N) (r : Route) (d n k : ℕ) (rows :
 
 module _ {N : Type 0} (b : Behaviour N) (m : ℕ) (v : View N) (place : List ℕ) (t : Tree N) where
   -- row j is dealt by its picks
-  rows_dealt : (r : Route) (i c n k : ℕ) (logs : List (List Event)) (rows : ℕ → List Rec) → Known b m v (row_deals (route_kind r) place t k i c n) logs
+  pub rows_dealt : (r : Route) (i c n k : ℕ) (logs : List (List Event)) (rows : ℕ → List Rec) → Known b m v (row_deals (route_kind r) place t k i c n) logs
       → ((j : ℕ) → j < n → v.In (i + j) (carried (rows j))) → RowsDealt v r c n k rows
   rows_dealt Rr i c n k logs rows known from =
       let chosen : Chosen (λ j (picks : List ℕ). Deals v (c + j * k) k picks (rows j)) n = choose _ n [] (λ j below.

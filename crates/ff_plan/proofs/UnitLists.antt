@@ -24,6 +24,13 @@ EachUnit-append P (l ∷ ls) ks (log ∷ logs) each =
     let rest = EachUnit-append P ls ks logs each.1 in
     record { front = log ∷ rest.front; back = rest.back; is = ap (λ rows. log ∷ rows) rest.is; left = (each.0, rest.left); right = rest.right }
 
+pub EachUnit-both : {N : Type 0} (P : Laid N → List Event → Type 0) (ls ks : List (Laid N)) (logs kogs : List (List Event)) → EachUnit P ls logs → EachUnit P ks kogs
+    → EachUnit P (ls ++ ks) (logs ++ kogs)
+EachUnit-both P [] ks [] kogs left right = right
+EachUnit-both P [] ks (log ∷ logs) kogs left right = absurd left
+EachUnit-both P (l ∷ ls) ks [] kogs left right = absurd left
+EachUnit-both P (l ∷ ls) ks (log ∷ logs) kogs left right = (left.0, EachUnit-both P ls ks logs kogs left.1 right)
+
 -- the only unit
 pub EachUnit-one : {N : Type 0} (P : Laid N → List Event → Type 0) (l : Laid N) (logs : List (List Event)) → EachUnit P (l ∷ []) logs → (log : List Event) × P l log
 EachUnit-one P l [] each = absurd each

@@ -21,11 +21,11 @@ use Rattle.ff_net.specs.Tree.{Tree, Wrap}
 use Rattle.ff_plan.specs.declared.kind.UnitKind.TheVariants.{Worker}
 use Rattle.ff_plan.specs.Histories.{all_rejected}
 use Rattle.ff_plan.specs.Laying.{lay, copies}
+use Rattle.ff_plan.specs.LogLaws.{IsSound}
 use Rattle.ff_plan.specs.Rows.{range}
 use Rattle.ff_plan.proofs.Dealing.{carried-one}
 use Rattle.ff_plan.proofs.Fronts.{items_or_marks}
 use Rattle.ff_plan.proofs.LevelWeights.{over_levels-weigh}
-use Rattle.ff_plan.proofs.LogAnswers.{IsSound}
 use Rattle.ff_plan.proofs.LogCounts.{given_to-total}
 use Rattle.ff_plan.proofs.LogLevels.{IsOver-came, IsAll, IsAll-done}
 use Rattle.ff_plan.proofs.Masters.{calm_of}
@@ -58,7 +58,7 @@ module _ {N : Type 0} (b : Behaviour N) (keeps : KeepsKind b) (law : (o : N) →
         at-range edge (e + n) n j below
         ∙ sym (workers_give b m view (child place 1) w e (e + n) n logs workers j below ts (sym carries ∙ at-front edge e n (o ∷ []) j below))
 
-    are_ins : FitsMaster n m p log ins outs → AreMasterIns n ins
+    pub are_ins : FitsMaster n m p log ins outs → AreMasterIns n ins
     are_ins fits = record {
       records = xs;
       fed_in = sym in_i;
@@ -67,28 +67,29 @@ module _ {N : Type 0} (b : Behaviour N) (keeps : KeepsKind b) (law : (o : N) →
           subst (AllByRecursion IsItemOrMark) (sym (answered j below given.0 given.1)) (items_or_marks (map (worker_sends b w) given.0));
     }
 
-    sound_of : IsLegal n m p log → CarryTasks n log ins outs → IsSound n (worker_sends b w) log
+    pub sound_of : IsLegal n m p log → CarryTasks n log ins outs → IsSound n (worker_sends b w) log
     sound_of legal carry = IsSound-groups n m p (worker_sends b w) log legal (λ j below.
         let owed = grouped (map (worker_sends b w) (given_to j log)) in
         let got = carry.answers j below in
         ([], got.0, append-nil owed ∙ sym (answered j below (given_to j log) (carry.tasks j below)) ∙ got.1))
 
     -- past the limit
+    pub is_over : IsLegal n m p log → IsSound n (worker_sends b w) log → Within (fed log) xs → m < length (came p log) → IsOver (mean b m w) p m xs
+    is_over legal sound feeds more =
+        subst (λ (f : List Rec → List Rec). IsOver f p m xs) (sym means) (IsOver-came n m p (worker_sends b w) log legal sound xs feeds more)
+
     over_outcome : IsLegal n m p log → IsSound n (worker_sends b w) log → Within (fed log) xs → m < length (came p log)
         → Outcome b m view (Wrap n w p) (lay place (Wrap n w p) i o e) (log ∷ logs) o xs
-    over_outcome legal sound feeds more =
-        let over : IsOver (mean b m w) p m xs =
-        subst (λ (f : List Rec → List Rec). IsOver f p m xs) (sym means) (IsOver-came n m p (worker_sends b w) log legal sound xs feeds more) in
-        inr ((λ fine. fine over), inl more)
+    over_outcome legal sound feeds more = inr ((λ fine. fine (is_over legal sound feeds more)), inl more)
 
     -- what was fed in is all of it
-    fed_is : HasDone n m p log ins outs → fed log ≡ xs
+    pub fed_is : HasDone n m p log ins outs → fed log ≡ xs
     fed_is has = carried-one (fed log) xs (sym has.fed_in ∙ sym in_i)
 
     module _ (legal : IsLegal n m p log) (has : HasDone n m p log ins outs)
         (few : length (came p log) ≤ m) where
-      all : IsAll n m p (worker_sends b w) log
-      all = IsAll-done n m p (worker_sends b w) log legal (sound_of legal has.workers) has.done few
+      pub did_all : IsAll n m p (worker_sends b w) log
+      did_all = IsAll-done n m p (worker_sends b w) log legal (sound_of legal has.workers) has.done few
 
       carry : (j : ℕ) → j < n → edge (e + j) ≡ carried (given_to j log)
       carry j below = sym (at-front edge e n (o ∷ []) j below) ∙ has.workers.tasks j below
@@ -100,21 +101,27 @@ module _ {N : Type 0} (b : Behaviour N) (keeps : KeepsKind b) (law : (o : N) →
             ap₂ (λ (f : List Rec → List Rec) (us : List Rec). weigh h (over_levels (mean_rejected b m w) f p (suc m) us)) means (sym (fed_is has))
             ∙ over_levels-weigh (worker_sends b w) p (mean_rejected b m w) h k
             (λ us. (mean_rejected-worker b keeps law combed m w plain good us).by h ∙ weigh-flat_map h (worker_rejects b w) us) (suc m) (fed log)
-            ∙ sym (all.tasks.by k)
+            ∙ sym (did_all.tasks.by k)
             ∙ sym (given_to-total n m p log legal k)
             ∙ sym (workers_reject b m view (child place 1) w (rejected-worker b keeps law combed m w plain good)
             edge h e (e + n) n (λ j. given_to j log) carry);
       }
 
+      pub fine : ¬ IsOver (mean b m w) p m xs
+      fine = λ over. did_all.fine (subst (λ (us : List Rec). IsOver (flat_map (worker_sends b w)) p m us) (sym (fed_is has))
+          (subst (λ (f : List Rec → List Rec). IsOver f p m xs) means over))
+
+      pub all_results : Same (results (mean b m w) p m xs) (came_out p log)
+      all_results = subst (λ (us : List Rec). Same (results (mean b m w) p m us) (came_out p log)) (fed_is has)
+          (subst (λ (f : List Rec → List Rec). Same (results f p m (fed log)) (came_out p log)) (sym means) did_all.results)
+
       -- done within it
       done_outcome : HasAnswer b m view (Wrap n w p) (lay place (Wrap n w p) i o e) (log ∷ logs) o xs
       done_outcome = record {
-        fine = λ over. all.fine (subst (λ (us : List Rec). IsOver (flat_map (worker_sends b w)) p m us) (sym (fed_is has))
-            (subst (λ (f : List Rec → List Rec). IsOver f p m xs) means over));
+        fine = fine;
         ys = came_out p log;
         out = sym has.results ∙ at-behind edge e n o;
-        same = subst (λ (us : List Rec). Same (results (mean b m w) p m us) (came_out p log)) (fed_is has)
-            (subst (λ (f : List Rec → List Rec). Same (results f p m (fed log)) (came_out p log)) (sym means) all.results);
+        same = all_results;
         rejects = λ whole. rejects;
         calm = λ over. elim over [
           | inl here ↦ omega (arith, here, few)

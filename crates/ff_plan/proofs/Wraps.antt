@@ -16,11 +16,11 @@ use Rattle.ff_net.specs.Tree.{Tree}
 use Rattle.ff_plan.specs.declared.kind.UnitKind.TheVariants.{Worker}
 use Rattle.ff_plan.specs.Histories.{group_of, all_rejected}
 use Rattle.ff_plan.specs.Laying.{copies}
+use Rattle.ff_plan.specs.LogLaws.{IsSound}
 use Rattle.ff_plan.specs.Rows.{laid, range}
 use Rattle.ff_plan.proofs.Copies.{total-first}
 use Rattle.ff_plan.proofs.EdgeLists.{AllOn-front, AllOn-behind}
 use Rattle.ff_plan.proofs.Fronts.{grouped-map, grouped-front}
-use Rattle.ff_plan.proofs.LogAnswers.{IsSound}
 use Rattle.ff_plan.proofs.LogCounts.{got_from-length}
 use Rattle.ff_plan.proofs.Masters.{NoMaster}
 use Rattle.ff_plan.proofs.Messages.{items-carried}

@@ -6,3 +6,6 @@ pub mod Standing
 pub mod WiringLaws
 pub mod Histories
 pub mod PlanLaws
+pub mod LogLaws
+pub mod Traffic
+pub mod TrafficLaws

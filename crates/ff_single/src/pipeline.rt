@@ -9,7 +9,7 @@ ghost use Rattle.ff_stream.specs.Streams.{streams};
 ghost use Rattle.ff_mean.specs.Pipelines.{ArePipelineOf};
 
 use crate::groups::group;
-use crate::whole::run_whole;
+use crate::meaning::run_whole;
 use ff_io::{Sink, Source};
 use ff_mean::laws::networks_without_feedback_are_pipelines;
 use ff_net::Checked;

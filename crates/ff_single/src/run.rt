@@ -5,8 +5,8 @@ ghost use Rattle.ff_stream.specs.Endings.{Ran, CountsInput, output_count};
 ghost use Rattle.ff_stream.specs.Jobs.{job};
 ghost use Rattle.ff_stream.specs.Streams.{streams};
 
+use crate::meaning::run_whole;
 use crate::pipeline::run_pipeline;
-use crate::whole::run_whole;
 use ff_io::{Sink, Source};
 use ff_net::Checked;
 use ff_node::Node;

@@ -1,5 +1,7 @@
 // What no clause says: that the calls succeed while memory is there, and that the clauses mean these bytes.
-use ff_io::{MemSink, MemSource, Source};
+mod adders;
+
+use ff_io::{MemSink, MemSource, SlowSource, Source};
 use ff_net::{Checked, Net, Test, Version, check};
 use ff_rec::{Cmp, LineFault};
 use ff_single::{Ending, RunFault, Stop, run_single};
@@ -177,7 +179,8 @@ fn lines_of_both_versions(rt: HostRuntime) -> Result<(), Fail> {
 fn many_nodes_flow(rt: HostRuntime) -> Result<(), Fail> {
     let alloc = rt.alloc();
     let net = checked(gates(alloc, 66)?, Version::One)?;
-    let mut source = MemSource::new(Vec::from_slice(alloc, b"1\n2\n")?, 2, Vec::new(alloc));
+    let lines = MemSource::new(Vec::from_slice(alloc, b"1\n2\n")?, 2, Vec::new(alloc));
+    let mut source = SlowSource::new(lines);
     let mut sink = MemSink::new(alloc, 0, Vec::new(alloc))?;
     let answer = run_single(alloc, &net, 9, true, &mut source, &mut sink);
     assert_eq!(rt; summary(answer), (WRITE, 0, 0));

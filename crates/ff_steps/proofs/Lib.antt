@@ -41,3 +41,4 @@ pub mod UnitRejects
 pub mod FreshUnits
 pub mod UnitsAlong
 pub mod Times
+pub mod Untaken

@@ -99,6 +99,6 @@ module _ {N : Type 0} (b : Behaviour N) (kind : KeepsKind b) where
   Begins-opening (AsOMerge u) gots puts begins =
       begins-to ((net_does b).Fits (AsOMerge u)) (FitsBy b (opening_net b (AsOMerge u)) []) gots puts (Fits-opening (AsOMerge u)) begins
   Begins-opening (AsMaster u) gots puts begins =
-      subst (λ n. BeginsMaster n (limit_of u.round) (test_of u.round) (log_of u.round) gots puts) (sym (workers-opened (test_of u.round) (limit_of u.round) (workers_of u.round))) begins
+      subst (λ n. BeginsMaster n (limit_of u.round) (test_of u.round) (log_of u.round) gots puts) (sym (workers-opened (test_of u.round) (limit_of u.round) (workers_of u.round))) begins.begins
   Begins-opening (AsWorker u) gots puts begins =
       begins-to ((net_does b).Fits (AsWorker u)) (FitsBy b (opening_net b (AsWorker u)) []) gots puts (Fits-opening (AsWorker u)) begins

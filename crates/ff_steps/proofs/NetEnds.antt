@@ -19,6 +19,7 @@ use Rattle.ff_net.specs.Nodes.{nodes_in}
 use Rattle.ff_net.specs.Tree.{Tree}
 use Rattle.ff_net.proofs.NodeGroups.{length-node_groups}
 use Rattle.ff_plan.specs.Laying.{units_of}
+use Rattle.ff_plan.specs.LogLaws.{LogLaws}
 use Rattle.ff_plan.specs.PlanLaws.{WholeRuns}
 use Rattle.ff_plan.specs.Plans.{rows_of}
 use Rattle.ff_plan.specs.Rows.{Row, Laid}
@@ -33,7 +34,7 @@ use Rattle.ff_unit.specs.Units.{Doing, IsUnit}
 use Rattle.ff_steps.specs.Core.{CoreState, edge, IsSound, all_ended, is_cut_off, is_short, held_rejects, taken_rejects}
 use Rattle.ff_steps.specs.NetCores.{IsNetCore, TellsOver}
 use Rattle.ff_steps.specs.NetUnits.{NetState, net_does, any_over}
-use Rattle.ff_steps.specs.OverEdges.{RanAlong, HasAnswered}
+use Rattle.ff_steps.specs.OverEdges.{RanAlong, HasAnswered, LogsAreRight}
 use Rattle.ff_steps.specs.PlanUnits.{opened_unit}
 use Rattle.ff_steps.specs.Parties.{Feeder, Drainer, AsUnit, AsFeeder, AsDrainer, has_ended}
 use Rattle.ff_steps.proofs.DrainerRuns.{IsEnded, items-drainer, IsEnded-drainer}
@@ -43,7 +44,7 @@ use Rattle.ff_steps.proofs.NetRuns.{RanOver-core, run-feeder, run-drainer}
 use Rattle.ff_steps.proofs.OneNode.{one_group, node_rejected-one}
 use Rattle.ff_steps.proofs.OneUnit.{no_copies-one_unit}
 use Rattle.ff_steps.proofs.OverEnds.{HasEndedWell}
-use Rattle.ff_steps.proofs.OverWhole.{HasAnswered-over, Over-over}
+use Rattle.ff_steps.proofs.OverWhole.{HasAnswered-over, Over-over, LogsAreRight-over}
 
 -- an end that is decided and isn't cut off is Eos
 fin-eos : (fin : Option End) → IsSome fin → is_cut_off fin ≡ false → fin ≡ Some Eos
@@ -115,6 +116,11 @@ module _ {N : Type 0} (b : Behaviour N) (kind : KeepsKind b) (laws : IsUnit (net
     over = Over-over b kind laws m keep t good c.units (λ e. (edge c e).got) (λ e. put_of (edge c e)) (RanOver-core b m keep t c is sound) ended_well c.input fed_whole (runs m);
     fine = λ none. (HasAnswered-core none).answers.fine;
   }
+
+  -- the logs of the masters
+  pub LogsAreRight-core : LogLaws b m t → LogsAreRight b m t c.units (λ e. put_of (edge c e))
+  LogsAreRight-core logs =
+      LogsAreRight-over b kind laws m keep t good c.units (λ e. (edge c e).got) (λ e. put_of (edge c e)) (RanOver-core b m keep t c is sound) ended_well c.input fed_whole logs
 
   -- the drainer took all of it
   items-last : (ys : List Rec) → put_of (edge c 1) ≡ closed (carried ys) → items (edge c 1).got ≡ ys

@@ -22,7 +22,7 @@ use Rattle.ff_steps.proofs.UnitFits.{BeginsUnit-unit}
 
 module _ {N : Type 0} (b : Behaviour N) (kind : KeepsKind b) (laws : IsUnit (net_does b)) (m : ℕ) (keep : Bool) where
   -- all units begin to fit what they took and put
-  begins-units : (got put : ℕ → List Message) (units : List (NetState N)) (ls : List (Laid N)) → AllByRecursion (HasShape b) ls
+  pub begins-units : (got put : ℕ → List Message) (units : List (NetState N)) (ls : List (Laid N)) → AllByRecursion (HasShape b) ls
       → map (opening_net b) units ≡ map (opened_unit b m keep) ls → RanAlong (net_does b) got put (map (λ l. l.row) ls) units
       → EachUnit (λ l log. BeginsUnit b m l log (map got l.row.ins) (map put l.row.outs)) ls (map log_of_net units)
   begins-units got put [] [] shapes made ran = tt

@@ -18,6 +18,7 @@ use Rattle.ff_net.specs.Tree.{Tree}
 use Rattle.ff_net.proofs.NodeGroups.{joined-node_groups}
 use Rattle.ff_plan.specs.Histories.{IsHistory, rejected_by}
 use Rattle.ff_plan.specs.Laying.{units_of}
+use Rattle.ff_plan.specs.LogLaws.{LogLaws}
 use Rattle.ff_plan.specs.PlanLaws.{Answered, WholeRuns}
 use Rattle.ff_plan.specs.Plans.{rows_of}
 use Rattle.ff_plan.specs.Rows.{Row, Laid}
@@ -27,7 +28,7 @@ use Rattle.ff_plan.proofs.LaidUnits.{length-rows_of}
 use Rattle.ff_unit.specs.MessageLaws.{IsOpen-carried}
 use Rattle.ff_unit.specs.Units.{Doing, IsUnit}
 use Rattle.ff_steps.specs.NetUnits.{NetState, net_does, any_over, log_of_net}
-use Rattle.ff_steps.specs.OverEdges.{RanAlong, RanOver, HasAnswered, IsOver}
+use Rattle.ff_steps.specs.OverEdges.{RanAlong, RanOver, HasAnswered, IsOver, LogsAreRight}
 use Rattle.ff_steps.proofs.MessageLists.{items-carried}
 use Rattle.ff_steps.proofs.OneUnit.{no_copies-one_unit}
 use Rattle.ff_steps.proofs.OverEnds.{before_eos, before_eos-whole, HasEndedWell}
@@ -118,11 +119,22 @@ module _ {N : Type 0} (b : Behaviour N) (kind : KeepsKind b) (laws : IsUnit (net
       (runs (λ e. before_eos (put e)) (map log_of_net units) xs history first-edge).0
       (past-ended b kind laws m keep got put over.first (units_of t) units all_ended is_over)
 
-  last-edge : put 1 ≡ closed (before_eos (put 1))
-  last-edge =
-      let j = joined.written 1 (omega arith) (λ is. omega (arith, is)) in
-      each-port (λ e. put e ≡ closed (before_eos (put e))) (unit_outs (rows_of t)) 1 j.party j.port
+  whole-edge : (e : ℕ) → e < edges t → put e ≡ closed (before_eos (put e))
+  whole-edge zero low = fed ∙ ap closed (sym first-edge)
+  whole-edge (suc e) low =
+      let j = joined.written (suc e) low (λ is. omega (arith, is)) in
+      each-port (λ k. put k ≡ closed (before_eos (put k))) (unit_outs (rows_of t)) (suc e) j.party j.port
       (side-along (λ row. row.outs) (λ e. put e ≡ closed (before_eos (put e))) (units_of t) (OnOuts-ended b kind laws m keep got put over.first (units_of t) units all_ended)) j.at
+
+  -- the logs of the masters
+  pub LogsAreRight-over : LogLaws b m t → LogsAreRight b m t units put
+  LogsAreRight-over logs =
+      let right = logs (λ e. before_eos (put e)) (map log_of_net units) xs history first-edge in record {
+        lists = λ e. before_eos (put e);
+        carries = whole-edge;
+        each = right.0;
+        once = λ none. right.1 (calm-ended b kind laws m keep got put over.first (units_of t) units all_ended none);
+      }
 
   -- the rejects of a unit alone, in their order
   kept_of_stage : keep ≡ true → (us : List (NetState N)) (ls : List (Laid N)) (groups : List (List N)) → length us ≡ 1 → AreStages ls groups
@@ -150,7 +162,7 @@ module _ {N : Type 0} (b : Behaviour N) (kind : KeepsKind b) (laws : IsUnit (net
   HasAnswered-over runs none =
       let a = answered runs none in record {
         ys = a.ys;
-        carries = last-edge ∙ ap closed a.carries;
+        carries = whole-edge 1 (omega arith) ∙ ap closed a.carries;
         answers = a.answers;
         number = number-ended b kind laws m keep got put over.first (units_of t) units all_ended ∙ ap counted (sym (Same-length a.rejects));
         kept = λ k. Same-trans (kept-ended b kind laws m keep got put over.first k (units_of t) units all_ended) (Same-sym a.rejects);

@@ -1,10 +1,10 @@
 -- A unit that is one of several kinds steps on as that kind does.
-use Rattle.std.specs.Prelude.{◌≡◌, ℕ, zero, suc, List}
-use Rattle.std.proofs.Common.{refl, sym, ap, ap₂, ◌∙◌, subst}
+use Rattle.std.specs.Prelude.{◌≡◌, ℕ, zero, suc, Bool, true, List}
+use Rattle.std.proofs.Common.{refl, sym, ap, ap₂, ◌∙◌, subst, inl, inr}
 use Rattle.ff_node.specs.Runs.{Message, Act, Took, Gave, Refused, Idle, Told, Handed}
 use Rattle.ff_port.specs.declared.answers.Step.{Step}
 use Rattle.ff_port.specs.declared.answers.Step.TheVariants.{Moved, Waits, Ended}
-use Rattle.ff_unit.specs.Units.{Doing, One, Moves, StepsOn, EndedOnly, Answers, idle_answer}
+use Rattle.ff_unit.specs.Units.{Doing, One, Moves, StepsOn, EndedOnly, ShortOnly, Answers, idle_answer}
 
 -- `as_one` is how a unit of the one kind is seen among others
 module _ {U V : Type 0} (d : Doing U) (others : Doing V) (as_one : U → V) (acts : (u : U) (act : Act) (v : U) → d.Steps u act v → others.Steps (as_one u) act (as_one v))
@@ -66,3 +66,14 @@ module _ {U V : Type 0} (d : Doing U) (others : Doing V) (as_one : U → V) (act
       (subst (λ x. StepsOn others (as_one u) gots puts answer (as_one v) gots' x left) (sym gives)
       (subst (λ x. StepsOn others (as_one u) gots puts answer (as_one v) gots' puts' x) (sym leaves)
       (StepsOn-whole u gots puts answer v gots' puts' waiting s))))))
+
+-- and it is short of memory as that kind is
+module _ {U V : Type 0} (d : Doing U) (others : Doing V) (as_one : U → V) (short : (u : U) → others.short (as_one u) ≡ d.short u)
+    (asks : (u : U) → others.asks (as_one u) ≡ d.asks u) where
+  pub ShortOnly-others : {grows : Bool} {u v : U} {before after : V} → before ≡ as_one u → after ≡ as_one v → ShortOnly d grows u v
+      → ShortOnly others grows before after
+  ShortOnly-others {grows} {u} {v} {before} {after} first last only = λ e. elim (only (sym (ap others.short last ∙ short v) ∙ e)) [
+    | inl was ↦ inl (ap others.short first ∙ short u ∙ was)
+    | inr (inl grown) ↦ inr (inl grown)
+    | inr (inr own) ↦ inr (inr (ap others.asks first ∙ asks u ∙ own))
+  ]

@@ -1,5 +1,5 @@
 -- Cores of the units of a network.
-use Rattle.std.specs.Prelude.{◌≡◌, ℕ, Bool, false, List, map}
+use Rattle.std.specs.Prelude.{◌≡◌, ◌≤◌, ℕ, Bool, false, List, map}
 use Rattle.ff_rec.specs.Lines.{Rec}
 use Rattle.ff_node.specs.Behaviour.{Behaviour}
 use Rattle.ff_net.specs.Meaning.{Fine}
@@ -46,6 +46,10 @@ opened_core d units rows edges input = record {
 abbrev pub opened_net : {N : Type 0} → Behaviour N → ℕ → Bool → Tree N → ℕ → List Rec → CoreState (NetState N)
 opened_net b m keep t cap input =
     opened_core (net_does b) (opened_units b m keep t) (port_rows t) (edge_queues (plan_of t cap Ring).edges) input
+
+-- a core of the units of a network before its first event, whatever its queues hold
+abbrev pub IsOpening : {N : Type 0} → Behaviour N → ℕ → Bool → Tree N → CoreState (NetState N) → Type 0
+IsOpening b m keep t c = (cap : ℕ) × (1 ≤ cap) × (c ≡ opened_net b m keep t cap c.input)
 
 -- the core was made of this network
 pub record IsNetCore {N : Type 0} (b : Behaviour N) (m : ℕ) (keep : Bool) (t : Tree N) (c : CoreState (NetState N)) : Type 0 where

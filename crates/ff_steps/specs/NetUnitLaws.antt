@@ -1,5 +1,5 @@
 -- A unit of a network keeps the laws of a unit, as its part does.
-use Rattle.std.proofs.Common.{◌≡◌, ◌⊎◌, true, false, List, [], Some, IsSome, refl, ap, ◌∙◌}
+use Rattle.std.proofs.Common.{◌≡◌, ◌⊎◌, true, false, List, [], Some, IsSome, refl, sym, ap, ◌∙◌}
 use Rattle.ff_node.specs.Behaviour.{Behaviour, KeepsKind}
 use Rattle.ff_node.specs.Classes.{ClassLaw}
 use Rattle.ff_node.specs.Comb.{Part, comb_node}
@@ -10,7 +10,7 @@ use Rattle.ff_loop.specs.WorkerLaws.{IsUnit-worker}
 use Rattle.ff_loop.specs.WorkerUnit.{worker_does}
 use Rattle.ff_order.specs.OMergeLaws.{IsUnit-omerge}
 use Rattle.ff_order.specs.OMerges.{OMergeState, OMergeStep, omerge_does}
-use Rattle.ff_port.specs.declared.answers.End.TheVariants.{Eos, Abort}
+use Rattle.ff_port.specs.declared.answers.End.TheVariants.{Eos, Abort, Memory}
 use Rattle.ff_unit.specs.DealLaws.{IsUnit-deal}
 use Rattle.ff_unit.specs.Deals.{DealState, DealStep, deal_does}
 use Rattle.ff_unit.specs.MergeLaws.{IsUnit-merge}
@@ -18,7 +18,7 @@ use Rattle.ff_unit.specs.Merges.{MergeState, MergeStep, merge_does}
 use Rattle.ff_unit.specs.Stage.{StageState}
 use Rattle.ff_unit.specs.StageLaws.{IsUnit-stage}
 use Rattle.ff_unit.specs.StageUnit.{stage_does}
-use Rattle.ff_unit.specs.Units.{IsUnit, Ran, HasRejects, TookAbort, taken_by, told_by, told_acts}
+use Rattle.ff_unit.specs.Units.{IsUnit, Ran, HasRejects, TookAbort, LacksBy, taken_by, told_by, told_acts}
 use Rattle.ff_loop.specs.WrapMasterLaws.{IsUnit-wrap, Ran-over}
 use Rattle.ff_loop.specs.WrapMasters.{WrapState, WrapStep, wrap_does, is_past}
 use Rattle.ff_steps.specs.NetUnits.{NetState, AsStage, AsDeal, AsMerge, AsOMerge, AsMaster, AsWorker, NetStep, net_does, opening_net, aborted_net}
@@ -152,6 +152,38 @@ module _ {N : Type 0} (b : Behaviour N) where
     causes (AsMaster u) gots puts ran = master.causes u gots puts (Ran-master u gots puts ran)
     causes (AsWorker u) gots puts ran = worker.causes u gots puts (Ran-worker u gots puts ran)
 
+    not-short : (u : NetState N) → ((net_does b).short (opening_net b u) ≡ false) × ((net_does b).short (aborted_net u) ≡ false)
+    not-short (AsStage u) = stage.not_short u
+    not-short (AsDeal u) = deal.not_short u
+    not-short (AsMerge u) = merge.not_short u
+    not-short (AsOMerge u) = omerge.not_short u
+    not-short (AsMaster u) = master.not_short u
+    not-short (AsWorker u) = worker.not_short u
+
+    short-ends : (u : NetState N) → (net_does b).fin u ≡ Some Memory → (net_does b).short u ≡ true
+    short-ends (AsStage u) = stage.short_ends u
+    short-ends (AsDeal u) = deal.short_ends u
+    short-ends (AsMerge u) = merge.short_ends u
+    short-ends (AsOMerge u) = omerge.short_ends u
+    short-ends (AsMaster u) = master.short_ends u
+    short-ends (AsWorker u) = worker.short_ends u
+
+    short-by : (u : NetState N) (act : Act) (v : NetState N) → NetStep b u act v → (net_does b).short v ≡ true → ((net_does b).short u ≡ true) ⊎ LacksBy ((net_does b).asks u) act
+    short-by (AsStage u) act v s e = stage.short_by u act s.0 s.2 (sym (ap (net_does b).short s.1) ∙ e)
+    short-by (AsDeal u) act v s e = deal.short_by u act s.0 s.2 (sym (ap (net_does b).short s.1) ∙ e)
+    short-by (AsMerge u) act v s e = merge.short_by u act s.0 s.2 (sym (ap (net_does b).short s.1) ∙ e)
+    short-by (AsOMerge u) act v s e = omerge.short_by u act s.0 s.2 (sym (ap (net_does b).short s.1) ∙ e)
+    short-by (AsMaster u) act v s e = master.short_by u act s.0 s.2 (sym (ap (net_does b).short s.1) ∙ e)
+    short-by (AsWorker u) act v s e = worker.short_by u act s.0 s.2 (sym (ap (net_does b).short s.1) ∙ e)
+
+    asks-kept : (u : NetState N) (act : Act) (v : NetState N) → NetStep b u act v → (net_does b).asks v ≡ true → (net_does b).asks u ≡ true
+    asks-kept (AsStage u) act v s e = stage.asks_kept u act s.0 s.2 (sym (ap (net_does b).asks s.1) ∙ e)
+    asks-kept (AsDeal u) act v s e = deal.asks_kept u act s.0 s.2 (sym (ap (net_does b).asks s.1) ∙ e)
+    asks-kept (AsMerge u) act v s e = merge.asks_kept u act s.0 s.2 (sym (ap (net_does b).asks s.1) ∙ e)
+    asks-kept (AsOMerge u) act v s e = omerge.asks_kept u act s.0 s.2 (sym (ap (net_does b).asks s.1) ∙ e)
+    asks-kept (AsMaster u) act v s e = master.asks_kept u act s.0 s.2 (sym (ap (net_does b).asks s.1) ∙ e)
+    asks-kept (AsWorker u) act v s e = worker.asks_kept u act s.0 s.2 (sym (ap (net_does b).asks s.1) ∙ e)
+
     aborts-by : (u : NetState N) → u ≡ opening_net b u → Leads (NetStep b) u (told_acts ((net_does b).outs u)) (aborted_net u)
     aborts-by (AsStage u) fresh =
         Leads-whole (stage_does (comb_node b)).Steps (NetStep b) AsStage (λ x act w s. (w, refl, s)) u (told_acts 1) ((stage_does (comb_node b)).aborted u) (stage.aborts_by u (cc fresh))
@@ -178,6 +210,10 @@ module _ {N : Type 0} (b : Behaviour N) where
       whole = whole;
       rejects_are = rejects-are;
       causes = causes;
+      not_short = not-short;
+      short_ends = short-ends;
+      short_by = short-by;
+      asks_kept = asks-kept;
       aborts_by = aborts-by;
     }
 

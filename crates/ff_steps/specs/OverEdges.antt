@@ -1,5 +1,5 @@
 -- The units of a network's plan, which ran over edges by number.
-use Rattle.std.specs.Prelude.{◌≡◌, ℕ, Bool, true, false, List, [], ◌∷◌, ◌++◌, map, length, sum_by}
+use Rattle.std.specs.Prelude.{◌≡◌, ℕ, ◌<◌, Bool, true, false, List, [], ◌∷◌, ◌++◌, map, length, sum_by}
 use Rattle.std.specs.List.{flat_map}
 use Rattle.ff_rec.specs.Lines.{Rec}
 use Rattle.ff_rec.specs.Streams.{carried, closed}
@@ -8,13 +8,15 @@ use Rattle.ff_node.specs.Behaviour.{Behaviour, node_rejected}
 use Rattle.ff_node.specs.Comb.{comb_node, running}
 use Rattle.ff_node.specs.Runs.{Message}
 use Rattle.ff_node.specs.Sends.{counted}
+use Rattle.ff_net.specs.Counts.{edges}
 use Rattle.ff_net.specs.Meaning.{mean_rejected, mean_rejected_count, Answers}
 use Rattle.ff_net.specs.Nodes.{nodes_in}
 use Rattle.ff_net.specs.Tree.{Tree}
+use Rattle.ff_plan.specs.LogLaws.{EachLogLaw, AllOnce}
 use Rattle.ff_plan.specs.Plans.{rows_of}
 use Rattle.ff_plan.specs.Rows.{Row}
 use Rattle.ff_unit.specs.Units.{Doing, Ran}
-use Rattle.ff_steps.specs.NetUnits.{NetState, net_does, any_over}
+use Rattle.ff_steps.specs.NetUnits.{NetState, net_does, any_over, log_of_net}
 use Rattle.ff_steps.specs.PlanUnits.{opened_units}
 
 -- each unit is reached by its own steps, which took what was got from the edges of its ins and put what was put on those of its outs
@@ -47,3 +49,12 @@ pub record HasAnswered {N : Type 0} (b : Behaviour N) (m : ℕ) (keep : Bool) (t
   pub kept_of_one : keep ≡ true → length units ≡ 1
       → flat_map (net_does b).taken units ++ flat_map (net_does b).kept units ≡ node_rejected (comb_node b) (running (map b.opening (nodes_in t))) xs
   pub none : keep ≡ false → flat_map (net_does b).kept units ≡ []
+
+-- the logs of these units are right, by what was put on the edges of their network's plan; and where no master is over its limit, each task, fed in or
+-- spawned, was done once
+pub record LogsAreRight {N : Type 0} (b : Behaviour N) (m : ℕ) (t : Tree N) (units : List (NetState N)) (put : ℕ → List Message) : Type 0 where
+  -- the messages on each edge before its Eos
+  pub lists : ℕ → List Message
+  pub carries : (e : ℕ) → e < edges t → put e ≡ closed (lists e)
+  pub each : EachLogLaw b m t lists (map log_of_net units)
+  pub once : any_over units ≡ false → AllOnce b m t lists (map log_of_net units)

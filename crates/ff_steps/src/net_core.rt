@@ -1,5 +1,5 @@
 // The core: units, a feeder and a drainer over plain queues.
-ghost use Rattle.std.specs.Prelude.{◌≡◌, ◌≤◌, ◌&&◌, sum_by, is_some, vec_len};
+ghost use Rattle.std.specs.Prelude.{◌≡◌, ◌≤◌, ◌+◌, ◌&&◌, length, sum_by, is_some, vec_len};
 ghost use Rattle.std.specs.List.{list_all};
 ghost use Rattle.ff_node.specs.Sends.{counted};
 ghost use Rattle.ff_unit.specs.Units.{end_of};
@@ -87,11 +87,25 @@ impl<U: Unit> Core<U> {
         &self.units
     }
 
+    /// How many parties it has: its units, the feeder and the drainer.
+    pub(crate) fn parties(&self) -> u32
+        ensures { result ≡ length self.now.units + 2 }
+    {
+        self.units.len() as u32 + 2
+    }
+
     /// What the drainer kept.
     pub(crate) fn output(&self) -> &Records
         ensures { result.now ≡ self.now.drainer.output }
     {
         &self.drainer.output
+    }
+
+    /// What the drainer kept, as its own.
+    pub(crate) fn into_output(self) -> Records
+        ensures { result ≡ self.drainer.output }
+    {
+        self.drainer.output
     }
 
     /// Whether memory was short: a unit ended otherwise than by Eos, or the feeder or the drainer was refused memory.

@@ -1,5 +1,5 @@
 // The core of a network.
-ghost use Rattle.std.specs.Prelude.{◌≡◌, ◌≤◌, true, false, length, sum_by, IfOk};
+ghost use Rattle.std.specs.Prelude.{◌≡◌, ◌≤◌, ◌+◌, [], true, false, length, sum_by, IfOk};
 ghost use Rattle.ff_rec.specs.Weights.{Same};
 ghost use Rattle.ff_node.specs.Behaviour.{node_rejected};
 ghost use Rattle.ff_node.specs.Comb.{comb_node};
@@ -9,10 +9,12 @@ ghost use Rattle.ff_net.specs.Meaning.{mean_rejected, mean_rejected_count, Answe
 ghost use Rattle.ff_net.specs.Nodes.{nodes_in};
 ghost use Rattle.ff_net.specs.Tree.{tree_of};
 ghost use Rattle.ff_plan.specs.Histories.{group_of};
-ghost use Rattle.ff_steps.specs.Core.{is_short, all_ended, taken_rejects, all_rejects, IsSound};
+ghost use Rattle.ff_port.specs.Queues.{put_of};
+ghost use Rattle.ff_steps.specs.Core.{edge, is_short, all_ended, taken_rejects, all_rejects, IsSound};
 ghost use Rattle.ff_steps.specs.Events.{Follows};
-ghost use Rattle.ff_steps.specs.NetCores.{opened_net, IsGood, IsNetCore, TellsOver};
+ghost use Rattle.ff_steps.specs.NetCores.{opened_net, IsOpening, IsGood, IsNetCore, TellsOver};
 ghost use Rattle.ff_steps.specs.NetUnits.{net_does, any_over};
+ghost use Rattle.ff_steps.specs.OverEdges.{LogsAreRight};
 ghost use Rattle.ff_steps.specs.Rejects.{Hands};
 
 use crate::NetUnit;
@@ -24,7 +26,7 @@ use crate::units::make_units;
 use ff_net::Checked;
 use ff_net::laws::checked_networks_are_good;
 use ff_node::{Node, Records};
-use ff_plan::laws::{cut_runs, whole_runs};
+use ff_plan::laws::{cut_runs, each_task_is_done_once, whole_runs};
 use ff_plan::{Queue, each_edge_has_two_ends, plan};
 use ff_rec::{NoMemory, Record};
 use std::alloc::Global;
@@ -57,7 +59,9 @@ impl<N: Node> NetCore<N> {
             ≡ opened_net N.does limit keep (tree_of checked.net) cap input) }
         ensures given { IfOk result (λ c. (c.checked ≡ checked)
             × (c.limit ≡ limit) × (c.keep ≡ keep)) }
+        ensures opening { IfOk result (λ c. IsOpening N.does c.limit c.keep (tree_of c.checked.net) c.core) }
         ensures good { IfOk result (λ c. IsGood N.does limit (tree_of checked.net) c.core) }
+        ensures untaken { IfOk result (λ c. taken_rejects (net_does N.does) c.core ≡ []) }
     {
         checked_networks_are_good(&checked);
         each_edge_has_two_ends(&checked);
@@ -78,7 +82,8 @@ impl<N: Node> NetCore<N> {
     /// One step of each named party in turn: the units by their numbers in the plan, then the feeder, then the drainer. A number
     /// that names none does nothing. It answers whether all have ended. Whatever the schedule is, the output is the first of an
     /// answer at each moment, if no wrap is over its limit for this input. Once all have ended, and memory was never short, a unit
-    /// is over exactly where a wrap is; and where none is, the output and the rejects are those of the network.
+    /// is over exactly where a wrap is; and where none is, the output and the rejects are those of the network, and by the log
+    /// of each wrap's master each of its tasks was done once.
     pub fn run_schedule(&mut self, schedule: &[u32]) -> bool
         ensures follows { Follows (net_does N.does) (IsGood N.does self.old.limit (tree_of self.old.checked.net))
             schedule.now self.old.core self.new.core }
@@ -91,6 +96,9 @@ impl<N: Node> NetCore<N> {
         ensures over { result ≡ true → is_short (net_does N.does) self.new.core ≡ false
             → TellsOver N.does self.new.limit (tree_of self.new.checked.net)
             self.new.core.input self.new.core.units }
+        ensures tasks { result ≡ true → is_short (net_does N.does) self.new.core ≡ false
+            → LogsAreRight N.does self.new.limit (tree_of self.new.checked.net)
+            self.new.core.units (λ e. put_of (edge self.new.core e)) }
         ensures answers { result ≡ true → is_short (net_does N.does) self.new.core ≡ false
             → any_over self.new.core.units ≡ false → Answers N.does self.new.limit (tree_of self.new.checked.net)
             self.new.core.input self.new.core.drainer.output }
@@ -115,8 +123,16 @@ impl<N: Node> NetCore<N> {
     {
         checked_networks_are_good(&self.checked);
         whole_runs(&self.checked);
+        each_task_is_done_once(&self.checked);
         cut_runs(&self.checked);
         run_schedule(&mut self.core, schedule)
+    }
+
+    /// How many parties a schedule may name: its units, the feeder and the drainer.
+    pub fn parties(&self) -> u32
+        ensures { result ≡ length self.now.core.units + 2 }
+    {
+        self.core.parties()
     }
 
     /// What the drainer kept.
@@ -124,6 +140,13 @@ impl<N: Node> NetCore<N> {
         ensures { result.now ≡ self.now.core.drainer.output }
     {
         self.core.output()
+    }
+
+    /// What the drainer kept, where the units aren't needed any more.
+    pub fn into_output(self) -> Records
+        ensures { result ≡ self.core.drainer.output }
+    {
+        self.core.into_output()
     }
 
     /// Whether a unit is over: more tasks came to a wrap than the limit allows. A network without a wrap never is.

@@ -1,4 +1,4 @@
-//! The tests of `ff_steps`, by its public calls alone.
+//! The tests of `ff_steps` and `ff_sweeps`, by their public calls alone.
 #![tactic(auto)]
 
 #[cfg(test)]

@@ -1,4 +1,4 @@
-// What no clause says: that memory is there, and that a schedule does its work.
+// What no clause says: that memory is there, and that a schedule and sweeps do their work.
 mod core_rows;
 mod doubling;
 mod narrow;
@@ -6,6 +6,7 @@ mod schedules;
 mod seen;
 mod sieve;
 mod stages;
+mod sweeps;
 mod units;
 mod wrap_nets;
 mod wraps;

@@ -44,8 +44,7 @@ pub(crate) fn take_all<N: Node, W: Intake<N>, I: Source, O: Sink>(
         if let Some(fault) = take_piece(&mut queue, &room[..got], reader, work, sink)? {
             return Ok(Stop::Line(fault));
         }
-        // The next bytes may be long in coming.
-        if got < room.len() {
+        if source.may_wait() {
             work.pause(sink)?;
         }
     }

@@ -4,7 +4,7 @@ mod nodes;
 mod takings;
 mod texts;
 
-use ff_io::{MemSink, MemSource};
+use ff_io::{MemSink, MemSource, SlowSource};
 use ff_net::Version;
 use ff_node::Node;
 use ff_rec::Record;
@@ -48,11 +48,14 @@ fn summary(answer: &Result<Ending, RunFault>) -> (Kind, u64) {
     }
 }
 
-fn source_of(rt: &impl Abort, alloc: Global, input: &[u8], by: Devices) -> Result<MemSource, Fail> {
+// A source in memory that may wait before each read.
+type Slow = SlowSource<MemSource>;
+
+fn source_of(rt: &impl Abort, alloc: Global, input: &[u8], by: Devices) -> Result<Slow, Fail> {
     assert!(rt; 1 <= by.most);
     let fail = vec![in alloc; by.fails]?;
     let bytes = Vec::from_slice(alloc, input)?;
-    Ok(MemSource::new(bytes, by.most, fail))
+    Ok(SlowSource::new(MemSource::new(bytes, by.most, fail)))
 }
 
 fn sink_of(alloc: Global, by: Devices) -> Result<MemSink, Fail> {
@@ -64,10 +67,10 @@ fn run<M: Node>(
     alloc: Global,
     node: M,
     keep: bool,
-    source: &mut MemSource,
+    source: &mut Slow,
     sink: &mut MemSink,
 ) -> Result<Ending, RunFault> {
-    run_stream::<Gate, M, MemSource, MemSink>(alloc, node, Version::One, keep, source, sink)
+    run_stream::<Gate, M, Slow, MemSink>(alloc, node, Version::One, keep, source, sink)
 }
 
 // Runs a node over an input and compares: how it ends, what the sink took, and how many records were rejected.

@@ -4,3 +4,11 @@ pub mod Through
 pub mod StageThrough
 pub mod UnitAborts
 pub mod FlagViews
+pub mod Rests
+pub mod HasEnds
+pub mod TurnMarks
+pub mod FlagEnds
+pub mod StageEnds
+pub mod StageRests
+pub mod MergeRests
+pub mod DealRests

@@ -14,8 +14,8 @@ use Rattle.ff_unit.specs.StagePorts.{StageReady}
 use Rattle.ff_unit.specs.StageSteps.{StageStep}
 use Rattle.ff_unit.specs.StageUnit.{stage_does}
 use Rattle.ff_unit.specs.StepLaws.{StepsOnce-took}
-use Rattle.ff_unit.specs.Units.{IsUnit, Ran, One, StepsOnce, StepsThrough, StaysAt}
-use Rattle.ff_unit.proofs.UnitRuns.{Ran-one}
+use Rattle.ff_unit.specs.Units.{IsUnit, Ran, OneOver, StepsOnce, StepsThrough, StaysAt}
+use Rattle.ff_unit.proofs.UnitRuns.{Ran-one, One-over}
 
 module _ {N : Type 0} where
   -- where nothing is held nothing was refused
@@ -46,13 +46,14 @@ module _ {N : Type 0} where
 module _ {N S : Type 0} (b : Behaviour N) (ports : Ghosts S Rec) (u w : StageState N) (before between : S) (m : Message)
     (steps : StageStep b [] u (Took 0 m) w) (linked : ports.link between ≡ ports.link before)
     (takes : ports.gots between ≡ added (ports.gots before) 0 m) (same : ports.puts between ≡ ports.puts before) where
-  One-took : One (stage_does b) u (ports.gots before) (ports.puts before) Moved w (ports.gots between) (ports.puts between)
+  One-took : OneOver (stage_does b) ports.grows u (ports.gots before) (ports.puts before) Moved w (ports.gots between) (ports.puts between)
   One-took = record { act = Took 0 m; steps = steps; takes = takes; gives = same; answers = refl }
 
   pub Ready-took : IsUnit (stage_does b) → Ran (stage_does b) u (ports.gots before) (ports.puts before) → StageReady w (ports.gots between) (ports.puts between)
   Ready-took laws ran =
       laws.ready w (ports.gots between) (ports.puts between)
-      (Ran-one (stage_does b) laws u (ports.gots before) (ports.puts before) Moved w (ports.gots between) (ports.puts between) One-took ran)
+      (Ran-one (stage_does b) laws u (ports.gots before) (ports.puts before) Moved w (ports.gots between) (ports.puts between)
+      (One-over (stage_does b) ports.grows u (ports.gots before) (ports.puts before) Moved w (ports.gots between) (ports.puts between) One-took) ran)
 
   -- it holds nothing then
   pub through-took : (v : StageState N) → w ≡ v → StepsThrough (stage_does b) ports u before Moved v between
@@ -66,7 +67,7 @@ module _ {N S : Type 0} (b : Behaviour N) (ports : Ghosts S Rec) (u w : StageSta
     gots_between = ports.gots between;
     puts_between = ports.puts between;
     first = One-took;
-    second = subst (λ a. One (stage_does b) w (ports.gots between) (ports.puts between) a v (ports.gots after) (ports.puts after)) e once.one;
+    second = subst (λ a. OneOver (stage_does b) ports.grows w (ports.gots between) (ports.puts between) a v (ports.gots after) (ports.puts after)) e once.one;
     answers = refl;
     linked = once.linked ∙ linked;
   })

@@ -1,11 +1,27 @@
 -- Runs of any unit go on with its acts.
-use Rattle.std.specs.Prelude.{◌≡◌, ℕ, zero, suc, Bool, List, [], ◌∷◌, Option, None, Some}
-use Rattle.std.proofs.Common.{refl, ◌∙◌, ap, sym, subst}
+use Rattle.std.specs.Prelude.{◌≡◌, ◌⊎◌, ℕ, zero, suc, Bool, true, List, [], ◌∷◌, Option, None, Some}
+use Rattle.std.proofs.Common.{refl, ◌∙◌, ap, sym, subst, inl, inr}
 use Rattle.ff_rec.specs.Lines.{Rec}
 use Rattle.ff_node.specs.Runs.{Message, Act, Took, Gave, Refused, Idle, Told, Handed, Leads, took, gave}
 use Rattle.ff_port.specs.declared.answers.Step.{Step}
 use Rattle.ff_port.specs.declared.answers.Step.TheVariants.{Moved, Waits, Ended}
-use Rattle.ff_unit.specs.Units.{Doing, IsUnit, Ran, RanFrom, One, Moves, StepsOn, Answers, HandsReject, EndedOnly, EndsAs, taken_by, told_by, answer_behind}
+use Rattle.ff_port.specs.declared.answers.End.TheVariants.{Memory}
+use Rattle.ff_unit.specs.Units.{Doing, IsUnit, Ran, RanFrom, One, Moves, StepsOn, Answers, HandsReject, EndedOnly, EndsAs, AnswersOver, OneOver, ShortOnly, LacksBy, taken_by, told_by, answer_behind}
+
+module _ {U : Type 0} (d : Doing U) where
+  -- one step over channels that grow, or that don't, is one step
+  answers-over : (grows : Bool) (act : Act) (v : U) (answer : Step) → AnswersOver d grows v act answer → Answers d v act answer
+  answers-over grows (Took k m) v answer a = a
+  answers-over grows (Gave k m) v answer a = a
+  answers-over grows Refused v answer a = a.0
+  answers-over grows Idle v answer a = a
+  answers-over grows Told v answer a = absurd a
+  answers-over grows (Handed x) v answer a = absurd a
+
+  pub One-over : (grows : Bool) (u : U) (gots puts : List (List Message)) (answer : Step) (v : U) (gots' puts' : List (List Message))
+      → OneOver d grows u gots puts answer v gots' puts' → One d u gots puts answer v gots' puts'
+  One-over grows u gots puts answer v gots' puts' one =
+      record { act = one.act; steps = one.steps; takes = one.takes; gives = one.gives; answers = answers-over grows one.act v answer one.answers }
 
 module _ {U : Type 0} (d : Doing U) (laws : IsUnit d) where
   -- one act more
@@ -61,6 +77,33 @@ module _ {U : Type 0} (d : Doing U) (laws : IsUnit d) where
 
     pub told-one : d.told v ≡ d.told u
     told-one = laws.told_kept u one.act v one.steps ∙ told_by-answers one.act v answer (d.told u) one.answers
+
+  -- what makes it short of memory
+  short-by : (u : U) (grows : Bool) (act : Act) (v : U) (answer : Step) → AnswersOver d grows v act answer → (d.short u ≡ true) ⊎ LacksBy (d.asks u) act
+      → (d.short u ≡ true) ⊎ (grows ≡ true) ⊎ (d.asks u ≡ true)
+  short-by u grows act v answer a (inl before) = inl before
+  short-by u grows (Took k m) v answer a (inr asks) = inr (inr asks)
+  short-by u grows (Gave k m) v answer a (inr asks) = inr (inr asks)
+  short-by u grows Refused v answer a (inr lacks) = inr (inl a.1)
+  short-by u grows Idle v answer a (inr lacks) = absurd lacks
+  short-by u grows Told v answer a (inr lacks) = absurd lacks
+  short-by u grows (Handed x) v answer a (inr lacks) = absurd lacks
+
+  pub short-one : (grows : Bool) (u : U) (gots puts : List (List Message)) (answer : Step) (v : U) (gots' puts' : List (List Message))
+      → OneOver d grows u gots puts answer v gots' puts' → ShortOnly d grows u v
+  short-one grows u gots puts answer v gots' puts' one = λ short. short-by u grows one.act v answer one.answers (laws.short_by u one.act v one.steps short)
+
+  pub asks-one : (u : U) (gots puts : List (List Message)) (answer : Step) (v : U) (gots' puts' : List (List Message))
+      → One d u gots puts answer v gots' puts' → d.asks v ≡ true → d.asks u ≡ true
+  asks-one u gots puts answer v gots' puts' one = laws.asks_kept u one.act v one.steps
+
+  -- one step behind another
+  pub short-then : (grows : Bool) (u w v : U) → (d.asks w ≡ true → d.asks u ≡ true) → ShortOnly d grows u w → ShortOnly d grows w v → ShortOnly d grows u v
+  short-then grows u w v kept first second = λ short. elim (second short) [ inl before ↦ first before | inr (inl g) ↦ inr (inl g) | inr (inr asks) ↦ inr (inr (kept asks)) ]
+
+  -- one that has ended as the answer tells
+  pub memory-ends : (answer : Step) (v : U) → EndsAs d answer v → answer ≡ Ended Memory → d.short v ≡ true
+  memory-ends answer v ends e = laws.short_ends v (subst (λ a. EndsAs d a v) e ends).1
 
   -- any number of acts
   pub opening-leads : (u : U) (acts : List Act) (v : U) → Leads d.Steps u acts v → d.opening v ≡ d.opening u

@@ -29,6 +29,12 @@ spoiled Eos = Abort
 spoiled Abort = Abort
 spoiled Memory = Memory
 
+-- whether it will end for want of memory
+abbrev pub is_memory : End → Bool
+is_memory Eos = false
+is_memory Abort = false
+is_memory Memory = true
+
 -- the end is decided once no in gives any more
 abbrev pub decided : Bool → End → Option End
 decided true end = None
@@ -39,6 +45,18 @@ abbrev pub told_last : End → List Message
 told_last Eos = EosMsg ∷ []
 told_last Abort = AbortMsg ∷ []
 told_last Memory = []
+
+-- what a merge tells at once of an Abort that it takes, unless it told one before
+abbrev pub told_first : End → List Message
+told_first Eos = AbortMsg ∷ []
+told_first Abort = []
+told_first Memory = []
+
+-- what it tells once no in gives any more: Eos, unless it told an Abort before
+abbrev pub told_well : End → List Message
+told_well Eos = EosMsg ∷ []
+told_well Abort = []
+told_well Memory = []
 
 -- a unit without rejects
 abbrev pub no_rejects : {U : Type 0} → U → List Rec

@@ -13,6 +13,7 @@ use Rattle.ff_unit.specs.DealKindLaws.{opening_deal-step, taken_deal-step, told_
 use Rattle.ff_unit.specs.DealReadyLaws.{DealReady-tied}
 use Rattle.ff_unit.specs.DealTiedLaws.{IsTied}
 use Rattle.ff_unit.specs.DealWholeLaws.{FitsWhole-deal}
+use Rattle.ff_unit.specs.ShortLaws.{decided-memory, short_deal-step}
 
 -- a run of a deal
 Ran-tied : (u : DealState) (gots puts : List (List Message)) → Ran deal_does u gots puts → IsTied u gots puts
@@ -30,5 +31,9 @@ IsUnit-deal = record {
   whole = λ u gots puts ran. FitsWhole-deal u gots puts (Ran-tied u gots puts ran);
   rejects_are = λ u gots puts ran done fin. record { number_is = refl; kept_are = λ keeps. absurd (false≢true keeps); none = λ _. refl };
   causes = λ u gots puts ran. TookAbort-deal u gots puts (Ran-tied u gots puts ran);
+  not_short = λ u. (refl, refl);
+  short_ends = λ u. decided-memory u.live u.end;
+  short_by = short_deal-step;
+  asks_kept = λ u act v s asks. asks;
   aborts_by = Leads-aborted_deal;
 }

@@ -9,7 +9,7 @@ use Rattle.ff_node.specs.Picks.{place_of}
 use Rattle.ff_node.specs.Runs.{Message, Act, Took, Gave, Refused, Idle, Told, Handed, BeginsToFit}
 use Rattle.ff_port.specs.declared.answers.End.{End}
 use Rattle.ff_port.specs.declared.answers.End.TheVariants.{Eos, Abort, Memory}
-use Rattle.ff_unit.specs.Closing.{spoiled, decided, told_last}
+use Rattle.ff_unit.specs.Closing.{spoiled, decided, told_last, is_memory}
 use Rattle.ff_unit.specs.StageSteps.{IsOpenFront}
 use Rattle.ff_unit.specs.Units.{Doing, Known}
 use Rattle.ff_unit.specs.declared.dealing.Dealing.{Dealing}
@@ -165,6 +165,8 @@ deal_does = record {
   done = λ u. u.done;
   told = λ u. u.told;
   aborted = aborted_deal;
+  short = λ u. is_memory u.end;
+  asks = λ u. false;
   rejects = λ u. 0;
   keeps = λ u. false;
   kept = λ u. [];

@@ -28,6 +28,8 @@ pub mod StageFitsLaws
 pub mod StageRefusalLaws
 pub mod StageRejectLaws
 pub mod StageAbortLaws
+pub mod StageShortLaws
+pub mod ShortLaws
 pub mod StageLaws
 pub mod MergeTiedLaws
 pub mod MergeInsLaws

@@ -66,8 +66,7 @@ OutTied-goes_on end any t ys zs out last = by end any out last
           ∙ ap unaborted (sym e)
           ∙ sym (append-nil (unaborted t)),
     )
-    by Abort true e last = on e
-    by Abort false c last = cut c
+    by Abort any c last = cut c
     by Memory any c last = cut c
 
 module _ (n : ℕ) (u : MergeState) (gots puts : List (List Message)) (t : MergeTied n u gots puts) where

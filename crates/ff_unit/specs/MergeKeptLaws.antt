@@ -7,7 +7,7 @@ use Rattle.ff_rec.specs.Streams.{IsOpen, at, added, items}
 use Rattle.ff_rec.specs.declared.msg.Msg.TheVariants.{Item, Mark, Pick, Eos as EosMsg, Abort as AbortMsg}
 use Rattle.ff_node.specs.Runs.{Message, Act, Took, Gave, Refused, Idle, Told, Handed, took, gave, HasRun}
 use Rattle.ff_port.specs.declared.answers.End.TheVariants.{Eos, Abort, Memory}
-use Rattle.ff_unit.specs.Closing.{IsLive, any_live, all_live, none_live, spoiled, told_last}
+use Rattle.ff_unit.specs.Closing.{IsLive, any_live, all_live, none_live, told_well}
 use Rattle.ff_unit.specs.Merges.{MergeState, MergeStep, merge_takes, merge_closes, forwarded, opened_merge, opening_merge}
 use Rattle.ff_unit.specs.StageSteps.{IsOpenFront}
 use Rattle.ff_unit.specs.FlagLaws.{any_live-at, any_live-all, any_live-none, length-all_live}
@@ -27,7 +27,7 @@ module _ (n : ℕ) where
   closes-tied w gots puts ys put ins is none goes_on out = by (any_live w.live) refl
     where
       Closed : Bool → Type 0
-      Closed any = MergeTied n (if any then w else record w { held = told_last w.end }) gots puts
+      Closed any = MergeTied n (if any then w else record w { held = told_well w.end }) gots puts
 
       by : (any : Bool) → any_live w.live ≡ any → MergeTied n (merge_closes w) gots puts
       by true e = subst Closed (sym e) (record {
@@ -43,7 +43,7 @@ module _ (n : ℕ) where
         ins = ins;
         put = put;
         puts_are = is;
-        out = subst (λ any. OutTied w.end any (put ++ told_last w.end) ys) (sym e) (OutTied-closes put ys w.end out);
+        out = subst (λ any. OutTied w.end any (put ++ told_well w.end) ys) (sym e) (OutTied-closes put ys w.end out);
         ended = λ done. absurd (goes_on done);
       })
 
@@ -78,9 +78,14 @@ module _ (n : ℕ) where
       by EosMsg =
           closes-tied (record u { live = slice_set u.live k false }) (added gots k EosMsg) puts t.ys t.put
           (InsTied-eos n u.live u.end u.told gots t.ys t.ins k on) t.puts_are none goes_on out
-      by AbortMsg =
-          closes-tied (record u { live = slice_set u.live k false; end = spoiled u.end }) (added gots k AbortMsg) puts t.ys t.put
-          (InsTied-abort n u.live u.end u.told gots t.ys t.ins k on) t.puts_are none goes_on (OutTied-spoiled t.put t.ys u.end out)
+      by AbortMsg = record {
+        ys = t.ys;
+        ins = InsTied-abort n u.live u.end u.told gots t.ys t.ins k on;
+        put = t.put;
+        puts_are = t.puts_are;
+        out = OutTied-spoiled t.put t.ys u.end (any_live (slice_set u.live k false)) out;
+        ended = λ done. absurd (goes_on done);
+      }
 
   -- a message is put
   gives-tied : (u : MergeState) (gots puts : List (List Message)) (m : Message) (held : List Message) → MergeTied n u gots puts → u.held ≡ m ∷ held

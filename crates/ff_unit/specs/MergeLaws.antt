@@ -7,17 +7,18 @@ use Rattle.ff_rec.specs.declared.msg.Msg.TheVariants.{Item, Mark, Pick, Eos as E
 use Rattle.ff_node.specs.Runs.{Message, Act, Took, Gave, Refused, Idle, Told, Handed, Leads}
 use Rattle.ff_port.specs.declared.answers.End.{End}
 use Rattle.ff_port.specs.declared.answers.End.TheVariants.{Eos, Abort, Memory}
-use Rattle.ff_unit.specs.Closing.{any_live, none_live, spoiled, told_last, decided}
+use Rattle.ff_unit.specs.Closing.{any_live, none_live, told_well, decided}
 use Rattle.ff_unit.specs.Merges.{MergeState, MergeStep, MergeReady, merge_takes, opened_merge, opening_merge, aborted_merge, merge_does}
 use Rattle.ff_unit.specs.Units.{IsUnit, Ran, taken_by, told_by, told_acts}
 use Rattle.ff_unit.specs.CarriedLaws.{BeginsCarried-open}
 use Rattle.ff_unit.specs.FlagLaws.{any_live-none, length-all_live, length-none_live}
 use Rattle.ff_unit.specs.MergeFitsLaws.{BeginsToFit-tied, FitsWhole-tied}
 use Rattle.ff_unit.specs.MergeKeptLaws.{HasRun-merge}
+use Rattle.ff_unit.specs.ShortLaws.{decided-memory, short_merge-step}
 use Rattle.ff_unit.specs.MergeTiedLaws.{MergeTied, OutTied, OutTied-begun}
 
 -- no act changes how many ins it has
-length-closes : (w : MergeState) (any : Bool) → length (if any then w else record w { held = told_last w.end }).live ≡ length w.live
+length-closes : (w : MergeState) (any : Bool) → length (if any then w else record w { held = told_well w.end }).live ≡ length w.live
 length-closes w true = refl
 length-closes w false = refl
 
@@ -26,8 +27,7 @@ length-takes u k (Item x) = refl
 length-takes u k Mark = refl
 length-takes u k (Pick w) = refl
 length-takes u k EosMsg = length-closes (record u { live = slice_set u.live k false }) (any_live (slice_set u.live k false)) ∙ length-set u.live k false
-length-takes u k AbortMsg =
-    length-closes (record u { live = slice_set u.live k false; end = spoiled u.end }) (any_live (slice_set u.live k false)) ∙ length-set u.live k false
+length-takes u k AbortMsg = length-set u.live k false
 
 length-step : (u : MergeState) (act : Act) (v : MergeState) → MergeStep u act v → length v.live ≡ length u.live
 length-step u (Took k m) v s = ap (λ w. length w.live) s.2 ∙ length-takes u k m
@@ -39,7 +39,7 @@ length-step u Told v s = ap (λ w. length w.live) s.1 ∙ length-none_live (leng
 length-step u (Handed x) v s = absurd s
 
 -- only being told tells it
-told-closes : (w : MergeState) (any : Bool) → (if any then w else record w { held = told_last w.end }).told ≡ w.told
+told-closes : (w : MergeState) (any : Bool) → (if any then w else record w { held = told_well w.end }).told ≡ w.told
 told-closes w true = refl
 told-closes w false = refl
 
@@ -48,7 +48,7 @@ told-takes u k (Item x) = refl
 told-takes u k Mark = refl
 told-takes u k (Pick w) = refl
 told-takes u k EosMsg = told-closes (record u { live = slice_set u.live k false }) (any_live (slice_set u.live k false))
-told-takes u k AbortMsg = told-closes (record u { live = slice_set u.live k false; end = spoiled u.end }) (any_live (slice_set u.live k false))
+told-takes u k AbortMsg = refl
 
 told-step : (u : MergeState) (act : Act) (v : MergeState) → MergeStep u act v → v.told ≡ told_by act u.told
 told-step u (Took k m) v s = ap (λ w. w.told) s.2 ∙ told-takes u k m
@@ -127,5 +127,9 @@ IsUnit-merge = record {
   whole = λ u gots puts ran. FitsWhole-tied (length u.live) u gots puts (tied u gots puts ran);
   rejects_are = λ u gots puts ran done fin. record { number_is = refl; kept_are = λ e. absurd cc; none = λ e. refl };
   causes = λ u gots puts ran fin. (tied u gots puts ran).ins.cause (decided-abort (any_live u.live) u.end fin);
+  not_short = λ u. (refl, refl);
+  short_ends = λ u. decided-memory (any_live u.live) u.end;
+  short_by = short_merge-step;
+  asks_kept = λ u act v s asks. asks;
   aborts_by = Leads-aborted;
 }

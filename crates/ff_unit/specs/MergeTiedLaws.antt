@@ -9,7 +9,7 @@ use Rattle.ff_node.specs.Picks.{ArePicks, share}
 use Rattle.ff_node.specs.Runs.{Message}
 use Rattle.ff_port.specs.declared.answers.End.{End}
 use Rattle.ff_port.specs.declared.answers.End.TheVariants.{Eos, Abort, Memory}
-use Rattle.ff_unit.specs.Closing.{any_live, spoiled, told_last}
+use Rattle.ff_unit.specs.Closing.{any_live, spoiled, told_first, told_well}
 use Rattle.ff_unit.specs.Merges.{MergeState, forwarded}
 use Rattle.ff_unit.specs.Units.{TookAbort}
 use Rattle.ff_unit.specs.CarriedLaws.{BeginsCarried, BeginsCarried-front, BeginsCarried-last, BeginsCarried-more}
@@ -32,8 +32,7 @@ pub record IsCutOff (t : List Message) (ys : List Rec) : Type 0 where
 abbrev pub OutTied : End → Bool → List Message → List Rec → Type 0
 OutTied Eos true t ys = t ≡ carried ys
 OutTied Eos false t ys = t ≡ closed (carried ys)
-OutTied Abort true t ys = t ≡ carried ys
-OutTied Abort false t ys = IsCutOff t ys
+OutTied Abort any t ys = IsCutOff t ys
 OutTied Memory any t ys = IsCutOff t ys
 
 -- the ins: `ys` are the records taken, in their order, and `picks` says at which in each was
@@ -65,8 +64,7 @@ cut_begun put held ys m t =
 pub OutTied-begun : (end : End) (any : Bool) (put held : List Message) (ys : List Rec) (m : Message) → OutTied end any (put ++ m ∷ held) ys → BeginsCarried put ys
 OutTied-begun Eos true put held ys m t = BeginsCarried-front put (m ∷ held) ys (sym t)
 OutTied-begun Eos false put held ys m t = BeginsCarried-last put held m ys EosMsg t
-OutTied-begun Abort true put held ys m t = BeginsCarried-front put (m ∷ held) ys (sym t)
-OutTied-begun Abort false put held ys m t = cut_begun put held ys m t
+OutTied-begun Abort any put held ys m t = cut_begun put held ys m t
 OutTied-begun Memory any put held ys m t = cut_begun put held ys m t
 
 -- then it is cut off behind them
@@ -81,20 +79,20 @@ module _ (put : List Message) (ys : List Rec) where
   -- a record goes on
   pub OutTied-item : (end : End) (x : Rec) → OutTied end true (put ++ []) ys → OutTied end true (put ++ forwarded end x) (ys ++ x ∷ [])
   OutTied-item Eos x t = ap (λ l. l ++ Item x ∷ []) (sym (append-nil put) ∙ t) ∙ sym (map-append (λ y. Item y) ys (x ∷ []))
-  OutTied-item Abort x t = ap (λ l. l ++ Item x ∷ []) (sym (append-nil put) ∙ t) ∙ sym (map-append (λ y. Item y) ys (x ∷ []))
+  OutTied-item Abort x t = record { put = t.put; is = t.is; begins = BeginsCarried-more t.put ys (x ∷ []) t.begins }
   OutTied-item Memory x t = record { put = t.put; is = t.is; begins = BeginsCarried-more t.put ys (x ∷ []) t.begins }
 
   -- no in gives any more, and the end is told
-  pub OutTied-closes : (end : End) → OutTied end true (put ++ []) ys → OutTied end false (put ++ told_last end) ys
+  pub OutTied-closes : (end : End) → OutTied end true (put ++ []) ys → OutTied end false (put ++ told_well end) ys
   OutTied-closes Eos t = ap (λ l. l ++ EosMsg ∷ []) (sym (append-nil put) ∙ t)
-  OutTied-closes Abort t = IsCutOff-begun put ys (all_begun t)
+  OutTied-closes Abort t = t
   OutTied-closes Memory t = t
 
   -- an Abort is taken
-  pub OutTied-spoiled : (end : End) → OutTied end true (put ++ []) ys → OutTied (spoiled end) true (put ++ []) ys
-  OutTied-spoiled Eos t = t
-  OutTied-spoiled Abort t = t
-  OutTied-spoiled Memory t = t
+  pub OutTied-spoiled : (end : End) (any : Bool) → OutTied end true (put ++ []) ys → OutTied (spoiled end) any (put ++ told_first end) ys
+  OutTied-spoiled Eos any t = IsCutOff-begun put ys (all_begun t)
+  OutTied-spoiled Abort any t = t
+  OutTied-spoiled Memory any t = t
 
   -- it is told to abort while it puts records
   pub IsCutOff-told : (end : End) → OutTied end true (put ++ []) ys → end ≡ Eos → IsCutOff (put ++ AbortMsg ∷ []) ys

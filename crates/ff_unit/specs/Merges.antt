@@ -7,7 +7,7 @@ use Rattle.ff_node.specs.Fits.{FitsMerge}
 use Rattle.ff_node.specs.Runs.{Message, Act, Took, Gave, Refused, Idle, Told, Handed, BeginsToFit}
 use Rattle.ff_port.specs.declared.answers.End.{End}
 use Rattle.ff_port.specs.declared.answers.End.TheVariants.{Eos, Abort, Memory}
-use Rattle.ff_unit.specs.Closing.{IsLive, any_live, all_live, none_live, spoiled, decided, told_last, AllDry}
+use Rattle.ff_unit.specs.Closing.{IsLive, any_live, all_live, none_live, spoiled, decided, told_first, told_well, AllDry, is_memory}
 use Rattle.ff_unit.specs.StageSteps.{IsOpenFront}
 use Rattle.ff_unit.specs.Units.{Doing, Known}
 
@@ -29,23 +29,23 @@ opened_merge n = record { live = all_live n; held = []; end = Eos; done = false;
 abbrev pub opening_merge : MergeState → MergeState
 opening_merge u = opened_merge (length u.live)
 
--- a record goes on to the out, but for want of memory
+-- a record goes on to the out while all goes well
 abbrev pub forwarded : End → Rec → List Message
 forwarded Eos x = Item x ∷ []
-forwarded Abort x = Item x ∷ []
+forwarded Abort x = []
 forwarded Memory x = []
 
--- once no in gives any more, its end is told
+-- once no in gives any more, its end is told, unless it was before
 abbrev pub merge_closes : MergeState → MergeState
-merge_closes u = if any_live u.live then u else record u { held = told_last u.end }
+merge_closes u = if any_live u.live then u else record u { held = told_well u.end }
 
--- a message is taken at in `k`; others than records, Eos and Abort are dropped
+-- a message is taken at in `k`: an Abort is told at once, and others than records, Eos and Abort are dropped
 abbrev pub merge_takes : MergeState → ℕ → Message → MergeState
 merge_takes u k (Item x) = record u { held = forwarded u.end x }
 merge_takes u k Mark = u
 merge_takes u k (Pick w) = u
 merge_takes u k EosMsg = merge_closes (record u { live = slice_set u.live k false })
-merge_takes u k AbortMsg = merge_closes (record u { live = slice_set u.live k false; end = spoiled u.end })
+merge_takes u k AbortMsg = record u { live = slice_set u.live k false; held = told_first u.end; end = spoiled u.end }
 
 -- one act of a merge: it puts what it holds, or takes from a live in
 abbrev pub MergeStep : MergeState → Act → MergeState → Type 0
@@ -85,6 +85,8 @@ merge_does = record {
   done = λ u. u.done;
   told = λ u. u.told;
   aborted = aborted_merge;
+  short = λ u. is_memory u.end;
+  asks = λ u. false;
   rejects = λ u. 0;
   keeps = λ u. false;
   kept = λ u. [];

@@ -7,6 +7,7 @@ use Rattle.ff_unit.specs.StageBeginsLaws.{StageReady-run, BeginsToFit-stage}
 use Rattle.ff_unit.specs.StageFitsLaws.{FitsWhole-stage}
 use Rattle.ff_unit.specs.StageKindLaws.{opening_stage-step, taken-step, told-step}
 use Rattle.ff_unit.specs.StageRejectLaws.{HasRejects-stage}
+use Rattle.ff_unit.specs.StageShortLaws.{short_of-ends, short_stage-step, live_stage-step}
 use Rattle.ff_unit.specs.StageUnit.{stage_does}
 use Rattle.ff_unit.specs.Units.{IsUnit}
 
@@ -22,5 +23,9 @@ IsUnit-stage b kind law = record {
   whole = λ u gots puts ran. FitsWhole-stage b kind law u gots puts ran.1;
   rejects_are = λ u gots puts ran. HasRejects-stage b kind u gots puts ran.1;
   causes = λ u gots puts ran. TookAbort-stage b kind u gots puts ran.1;
+  not_short = λ u. (refl, refl);
+  short_ends = λ u. short_of-ends u.mode u.fin;
+  short_by = short_stage-step b [];
+  asks_kept = live_stage-step b [];
   aborts_by = Leads-aborted_stage b [];
 }

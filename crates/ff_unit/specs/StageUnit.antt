@@ -1,19 +1,38 @@
 -- A stage as a unit.
-use Rattle.std.specs.Prelude.{◌≡◌, true, List, [], Some}
+use Rattle.std.specs.Prelude.{◌≡◌, Bool, true, false, List, [], Option, None, Some}
 use Rattle.ff_rec.specs.Streams.{at, items}
 use Rattle.ff_node.specs.Behaviour.{Behaviour, node_rejected}
 use Rattle.ff_node.specs.Fits.{FitsStage}
 use Rattle.ff_node.specs.Runs.{Message, BeginsToFit}
+use Rattle.ff_port.specs.declared.answers.End.{End}
 use Rattle.ff_port.specs.declared.answers.End.TheVariants.{Abort}
+use Rattle.ff_unit.specs.Closing.{is_memory}
 use Rattle.ff_unit.specs.Stage.{StageState, opening_stage}
 use Rattle.ff_unit.specs.StagePorts.{StageReady, Stalls}
 use Rattle.ff_unit.specs.StageSteps.{StageStep}
 use Rattle.ff_unit.specs.Units.{Doing}
-use Rattle.ff_unit.specs.declared.mode.Mode.TheVariants.{Cut}
+use Rattle.ff_unit.specs.declared.mode.Mode.{Mode}
+use Rattle.ff_unit.specs.declared.mode.Mode.TheVariants.{Live, Shut, Cut}
 
 -- a stage that was told to abort before its first step
 abbrev pub aborted_stage : {N : Type 0} → StageState N → StageState N
 aborted_stage u = record u { mode = Cut; fin = Some Abort; done = true; told = true }
+
+-- whether its node is live, so that its calls may be refused memory
+abbrev pub is_live : Mode → Bool
+is_live Live = true
+is_live Shut = false
+is_live Cut = false
+
+-- whether it is short of memory: it was cut off before its end is decided, or will end by that
+abbrev pub is_cut : Mode → Bool
+is_cut Live = false
+is_cut Shut = false
+is_cut Cut = true
+
+abbrev pub short_of : Mode → Option End → Bool
+short_of mode None = is_cut mode
+short_of mode (Some fin) = is_memory fin
 
 -- what a stage of this node does: behind the sends of a record it holds nothing
 abbrev pub stage_does : {N : Type 0} → Behaviour N → Doing (StageState N)
@@ -27,6 +46,8 @@ stage_does b = record {
   done = λ u. u.done;
   told = λ u. u.told;
   aborted = aborted_stage;
+  short = λ u. short_of u.mode u.fin;
+  asks = λ u. is_live u.mode;
   rejects = λ u. u.rejects;
   keeps = λ u. u.keeps;
   kept = λ u. u.kept;

@@ -5,7 +5,7 @@ use Rattle.ff_rec.specs.declared.msg.Msg.TheVariants.{Item, Mark, Pick, Eos as E
 use Rattle.ff_node.specs.Runs.{Message, Act, Took, Gave, Refused, Idle, Told, Handed, Leads, HasRun, OneEvent, FitsWhole}
 use Rattle.ff_node.specs.Sends.{counted}
 use Rattle.ff_port.specs.declared.answers.End.{End}
-use Rattle.ff_port.specs.declared.answers.End.TheVariants.{Eos, Abort}
+use Rattle.ff_port.specs.declared.answers.End.TheVariants.{Eos, Abort, Memory}
 use Rattle.ff_port.specs.declared.answers.Step.{Step}
 use Rattle.ff_port.specs.declared.answers.Step.TheVariants.{Moved, Waits, Ended}
 use Rattle.ff_port.specs.declared.ports.Ports.{Ghosts}
@@ -37,6 +37,10 @@ pub record Doing (U : Type 0) : Type 1 where
   -- whether it was told to abort, and what this makes of a unit before its first step
   pub told : U → Bool
   pub aborted : U → U
+  -- whether a call of it was refused memory, so that it will end by Memory; and whether it makes calls that may be, other than
+  -- puts: those of its node or of its scheduler
+  pub short : U → Bool
+  pub asks : U → Bool
   -- how many records it rejected, whether these are kept, those kept of them, and those kept and taken out
   pub rejects : U → ℕ
   pub keeps : U → Bool
@@ -82,6 +86,18 @@ Answers d v (Handed x) answer = ⊥
 abbrev pub One : {U : Type 0} → Doing U → U → List (List Message) → List (List Message) → Step → U → List (List Message) → List (List Message) → Type 0
 One d u gots puts answer v gots' puts' = OneEvent d.Steps (Answers d) u gots puts answer v gots' puts'
 
+-- the same over channels that grow, or that don't: a put is refused memory where they grow alone
+abbrev pub AnswersOver : {U : Type 0} → Doing U → Bool → U → Act → Step → Type 0
+AnswersOver d grows v (Took k m) answer = answer ≡ Moved
+AnswersOver d grows v (Gave k m) answer = answer ≡ Moved
+AnswersOver d grows v Refused answer = (answer ≡ Moved) × (grows ≡ true)
+AnswersOver d grows v Idle answer = answer ≡ idle_answer (d.done v) (d.fin v)
+AnswersOver d grows v Told answer = ⊥
+AnswersOver d grows v (Handed x) answer = ⊥
+
+abbrev pub OneOver : {U : Type 0} → Doing U → Bool → U → List (List Message) → List (List Message) → Step → U → List (List Message) → List (List Message) → Type 0
+OneOver d grows u gots puts answer v gots' puts' = OneEvent d.Steps (AnswersOver d grows) u gots puts answer v gots' puts'
+
 -- where a unit waits, its due port was tried and gave nothing
 abbrev pub WaitsOnly : {U : Type 0} → Doing U → U → Step → Known → Known → Type 0
 WaitsOnly d u Moved before after = Unit {0}
@@ -95,10 +111,14 @@ EndedOnly d u Waits v waiting = Unit {0}
 EndedOnly d u (Ended fin) v waiting =
     (d.done v ≡ true) × (d.fin v ≡ Some fin) × d.Rests v × ((d.done u ≡ true → ⊥) → waiting ≡ 0)
 
+-- a unit that is short of memory was so before, or its channels grow, or it makes calls of its own that may be refused memory
+abbrev pub ShortOnly : {U : Type 0} → Doing U → Bool → U → U → Type 0
+ShortOnly d grows u v = d.short v ≡ true → (d.short u ≡ true) ⊎ (grows ≡ true) ⊎ (d.asks u ≡ true)
+
 -- one step of a unit is exactly one act; where it waits its due port was tried, where it ends it ends as was decided; and what its
--- ports are paired with stays. `ports` is what is seen of them, at `before` and at `after`
+-- ports are paired with stays; a put is refused memory on channels that grow alone. `ports` is what is seen of them, at `before` and at `after`
 pub record StepsOnce {U S : Type 0} (d : Doing U) (ports : Ghosts S Rec) (u : U) (before : S) (answer : Step) (v : U) (after : S) : Type 0 where
-  pub one : One d u (ports.gots before) (ports.puts before) answer v (ports.gots after) (ports.puts after)
+  pub one : OneOver d ports.grows u (ports.gots before) (ports.puts before) answer v (ports.gots after) (ports.puts after)
   pub waits : WaitsOnly d u answer (known (ports.knowns before) (ports.rooms before) (ports.waiting before))
       (known (ports.knowns after) (ports.rooms after) (ports.waiting after))
   pub ended : EndedOnly d u answer v (ports.waiting after)
@@ -109,8 +129,8 @@ pub record MovesTwice {U S : Type 0} (d : Doing U) (ports : Ghosts S Rec) (u : U
   pub between : U
   pub gots_between : List (List Message)
   pub puts_between : List (List Message)
-  pub first : One d u (ports.gots before) (ports.puts before) Moved between gots_between puts_between
-  pub second : One d between gots_between puts_between Moved v (ports.gots after) (ports.puts after)
+  pub first : OneOver d ports.grows u (ports.gots before) (ports.puts before) Moved between gots_between puts_between
+  pub second : OneOver d ports.grows between gots_between puts_between Moved v (ports.gots after) (ports.puts after)
   pub answers : answer ≡ Moved
   pub linked : ports.link after ≡ ports.link before
 
@@ -201,6 +221,15 @@ told_by Idle told = told
 told_by Told told = true
 told_by (Handed x) told = told
 
+-- what may make a unit short of memory: a put, or a call of its own behind what it took or put
+abbrev pub LacksBy : Bool → Act → Type 0
+LacksBy asks (Took k m) = asks ≡ true
+LacksBy asks (Gave k m) = asks ≡ true
+LacksBy asks Refused = Unit {0}
+LacksBy asks Idle = ⊥
+LacksBy asks Told = ⊥
+LacksBy asks (Handed x) = ⊥
+
 -- an Abort was put on each of the first `n` outs, the last of them first
 abbrev pub aborts : ℕ → List Act
 aborts zero = []
@@ -233,5 +262,11 @@ pub record IsUnit {U : Type 0} (d : Doing U) : Type 0 where
   -- it ends by Abort only where it took one or was told to
   pub causes : (u : U) (gots puts : List (List Message)) → Ran d u gots puts → d.fin u ≡ Some Abort
       → (d.told u ≡ true) ⊎ TookAbort gots
+  -- it is short of memory neither before its first step nor where it was told to abort, and it ends by Memory only where it is
+  pub not_short : (u : U) → (d.short (d.opening u) ≡ false) × (d.short (d.aborted u) ≡ false)
+  pub short_ends : (u : U) → d.fin u ≡ Some Memory → d.short u ≡ true
+  -- it comes to that by a refused put or by a call of its own alone, and one that makes no such calls any more makes none later
+  pub short_by : (u : U) (act : Act) (v : U) → d.Steps u act v → d.short v ≡ true → (d.short u ≡ true) ⊎ LacksBy (d.asks u) act
+  pub asks_kept : (u : U) (act : Act) (v : U) → d.Steps u act v → d.asks v ≡ true → d.asks u ≡ true
   -- one that is told to abort before its first step puts Abort on each out and ends
   pub aborts_by : (u : U) → u ≡ d.opening u → Leads d.Steps u (told_acts (d.outs u)) (d.aborted u)

@@ -17,7 +17,7 @@ mod takes;
 mod threaded;
 mod unit;
 
-pub use closing::{last_message, spoil};
+pub use closing::spoil;
 pub use deal::{Deal, Held, HeldPut, Last};
 pub use dealing::Dealing;
 pub use flags::Flags;

@@ -12,7 +12,7 @@ pub trait Unit: Drop {
     ghost use Rattle.ff_rec.specs.declared.msg.Msg.TheVariants.{Abort as AbortMsg};
     ghost use Rattle.ff_node.specs.Runs.{Message, FitsWhole};
     ghost use Rattle.ff_unit.specs.Units.{Doing, IsUnit, Ran, One, StepsOnce, StepsThrough, StepsOn, WaitsOnly, EndedOnly};
-    ghost use Rattle.ff_unit.specs.Units.{known, end_of, HandsReject, HasRejects, TookAbort, StaysAt};
+    ghost use Rattle.ff_unit.specs.Units.{known, end_of, HandsReject, HasRejects, TookAbort, StaysAt, ShortOnly};
 
     /// What it does, by what is seen of it.
     ghost does: { Doing Self };
@@ -54,8 +54,8 @@ pub trait Unit: Drop {
     /// What holds of all that it does.
     ghost sound: { IsUnit does };
 
-    /// One step: it puts the first message that it holds, or else takes one, or flushes its outs and ends. How it ends is free
-    /// where memory is short; by Abort it ends only where it took one or `abort` was called.
+    /// One step: it puts the first message that it holds, or else takes one, or flushes its outs and ends. By Abort it ends only
+    /// where it took one or `abort` was called.
     #[inline(always)]
     final fn step<P: Ports<Record>>(&mut self, ports: &mut P) -> Step
         requires { Ran does self.old (P.gots ports.old) (P.puts ports.old) }
@@ -75,6 +75,10 @@ pub trait Unit: Drop {
             → HasRejects does self.new (P.gots ports.new) }
         ensures aborts { result ≡ Step.Ended End.Abort
             → (does.told self.new ≡ true) ⊎ TookAbort (P.gots ports.new) }
+
+        // By Memory it ends only where a call was refused some: in this step, or in one before.
+        ensures memory { result ≡ Step.Ended End.Memory → does.short self.new ≡ true }
+        ensures short { ShortOnly does P.grows self.old self.new }
 
         ensures waits { WaitsOnly does self.old result
             (known (P.knowns ports.old) (P.rooms ports.old) (P.waiting ports.old))
@@ -96,6 +100,7 @@ pub trait Unit: Drop {
         ensures waits { WaitsOnly does self.old result
             (known (P.knowns ports.old) (P.rooms ports.old) (P.waiting ports.old))
             (known (P.knowns ports.new) (P.rooms ports.new) (P.waiting ports.new)) }
+        ensures short { ShortOnly does P.grows self.old self.new }
         ensures link { P.link ports.new ≡ P.link ports.old }
     {
         for k in 0..MOST_AT_ONCE {

@@ -35,17 +35,20 @@ text_app name = with_rule (with_rule (new_app name) (word (codes "TEXT"))) file
 abbrev pub with_channels : App → App
 with_channels app = with_rule (with_rule app (option_or (codes "cap") (codes "512"))) (option_or (codes "queue") (codes "ring"))
 
+-- the ways of a run on one thread
+abbrev pub with_ways : App → App
+with_ways app = with_rule (with_rule app (flag (codes "one"))) (flag (codes "sweep"))
+
 -- how many workers
 abbrev pub with_workers : App → App
 with_workers app = with_rule app (option_or (codes "workers") (codes "4"))
 
--- `run [TEXT] [-f FILE] [--cap N] [--queue Q] [--tasks N] [--one] [--rejects FILE]`
+-- `run [TEXT] [-f FILE] [--cap N] [--queue Q] [--tasks N] [--rejects FILE] [--one] [--sweep]`
 abbrev pub run_app : App
-run_app = with_rule
+run_app = with_ways
     (with_rule
     (with_rule (with_channels (text_app (codes "run"))) (option_or (codes "tasks") (codes "1000000")))
-    (flag (codes "one")))
-    (option (codes "rejects"))
+    (option (codes "rejects")))
 
 -- `check [TEXT] [-f FILE]`
 abbrev pub check_app : App

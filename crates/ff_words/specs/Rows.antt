@@ -1,5 +1,5 @@
 -- The values of a command, from what the words give to its arguments.
-use Rattle.std.specs.Prelude.{ℕ, Bool, false, if◌then◌else◌, List, Option, None, Some, option_and_then, option_map, codes}
+use Rattle.std.specs.Prelude.{ℕ, Bool, true, false, if◌then◌else◌, List, Option, None, Some, option_and_then, option_map, codes}
 use Rattle.std.specs.Option.{option_map_or}
 use Rattle.std.specs.Str.{bytes_eq}
 use Rattle.clap.specs.Words.{Row, first_of}
@@ -10,6 +10,8 @@ use Rattle.ff_words.specs.declared.command.Command.{Command}
 use Rattle.ff_words.specs.declared.command.Command.TheVariants.{Run, Check, Plan, Mdf, Dc, Soak}
 use Rattle.ff_words.specs.declared.command.DcRule.{DcRule}
 use Rattle.ff_words.specs.declared.command.DcRule.TheVariants.{Fib, Sum, MaxSub, FirstMin, Bracket}
+use Rattle.ff_words.specs.declared.command.Way.{Way}
+use Rattle.ff_words.specs.declared.command.Way.TheVariants.{Threads, One, Sweep}
 use Rattle.ff_words.specs.declared.command.Given.{Given}
 use Rattle.ff_words.specs.declared.command.Given.TheVariants as given
 
@@ -59,10 +61,19 @@ operand Fib None = None
 operand _ (Some text) = None
 operand _ None = Some None
 
--- `run`: a text, `--cap`, `--queue`, up to 10,000,000 in `--tasks`, `--one`, and `--rejects` where it stands
+-- the way of a run, by whether `--one` and `--sweep` stand; both are no command
+abbrev pub way_of : Bool → Bool → Option Way
+way_of false false = Some Threads
+way_of true false = Some One
+way_of false true = Some Sweep
+way_of true true = None
+
+-- `run`: a text, `--cap`, `--queue`, up to 10,000,000 in `--tasks`, at most one of `--one` and `--sweep`, and `--rejects`
+-- where it stands
 abbrev pub run_of : List Row → Option Command
-run_of rows = option_and_then (λ text. option_and_then (λ cap. option_and_then (λ queue. option_map (λ tasks.
-    Run text cap queue tasks (stands (codes "one") rows) (first_of (codes "rejects") rows))
+run_of rows = option_and_then (λ text. option_and_then (λ cap. option_and_then (λ queue. option_and_then (λ tasks. option_map (λ way.
+    Run text cap queue tasks way (first_of (codes "rejects") rows))
+    (way_of (stands (codes "one") rows) (stands (codes "sweep") rows)))
     (number_of (codes "tasks") 1 10000000 rows)) (queue_of rows)) (cap_of rows)) (given_of rows)
 
 -- `check`: a text

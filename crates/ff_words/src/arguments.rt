@@ -1,7 +1,7 @@
 // The arguments of each command, as `clap` has them.
 ghost use Rattle.std.specs.Prelude.{◌≡◌, false, IfOk};
 ghost use Rattle.clap.specs.Words.{app_of, rule_of};
-ghost use Rattle.ff_words.specs.Arguments.{option, option_or, flag, text_app, with_channels, with_workers};
+ghost use Rattle.ff_words.specs.Arguments.{option, option_or, flag, text_app, with_channels, with_ways, with_workers};
 ghost use Rattle.ff_words.specs.Arguments.{run_app, check_app, plan_app, mdf_app, dc_app, soak_app};
 
 use clap::{Arg, ArgAction, Command};
@@ -12,10 +12,10 @@ pub fn run_arguments<'a>(alloc: Global) -> Result<Command<'a>, AllocError>
     ensures { IfOk result (λ c. app_of c ≡ run_app) }
 {
     let command = channels(alloc, text_or_file(alloc, "run")?)?;
-    command
+    let command = command
         .arg(option_or(alloc, "tasks", "1000000"))?
-        .arg(flag(alloc, "one"))?
-        .arg(option(alloc, "rejects"))
+        .arg(option(alloc, "rejects"))?;
+    ways(alloc, command)
 }
 
 /// The arguments of `check`.
@@ -74,6 +74,13 @@ fn channels<'a>(alloc: Global, command: Command<'a>) -> Result<Command<'a>, Allo
     command
         .arg(option_or(alloc, "cap", "512"))?
         .arg(option_or(alloc, "queue", "ring"))
+}
+
+// The command with the two ways of a run on one thread.
+fn ways<'a>(alloc: Global, command: Command<'a>) -> Result<Command<'a>, AllocError>
+    ensures { IfOk result (λ c. app_of c ≡ with_ways (app_of command.entry)) }
+{
+    command.arg(flag(alloc, "one"))?.arg(flag(alloc, "sweep"))
 }
 
 // The command with the option for workers.

@@ -21,6 +21,17 @@ pub enum DcRule {
     Bracket,
 }
 
+/// How a network is run.
+#[derive(Clone, Copy, Debug, PartialEq, Eq)]
+pub enum Way {
+    /// By threads.
+    Threads,
+    /// On the calling thread, record by record.
+    One,
+    /// On the calling thread, by sweeps over the units.
+    Sweep,
+}
+
 /// Where a description stands.
 #[derive(Debug, Drop)]
 pub enum Given {
@@ -41,8 +52,7 @@ pub enum Command {
         queue: Queue,
         /// The most tasks of a wrap.
         tasks: u64,
-        /// On the calling thread alone.
-        one: bool,
+        way: Way,
         /// The file for the rejected records.
         rejects: Option<Text>,
     },

@@ -11,7 +11,7 @@ mod text;
 mod values;
 mod words;
 
-pub use command::{Command, CommandFault, DcRule, Given};
+pub use command::{Command, CommandFault, DcRule, Given, Way};
 pub use ff_plan::Queue;
 pub use text::Text;
 pub use words::read_command;

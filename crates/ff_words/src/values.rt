@@ -1,11 +1,11 @@
 // The values of each command. What isn't within its limits is no command.
 ghost use Rattle.std.specs.Prelude.{◌≡◌, None, Some, IfOk, IsErrOf, option_map};
 ghost use Rattle.clap.specs.Words.{found_of, rows_of};
-ghost use Rattle.ff_words.specs.Rows.{given_of, operand, run_of, check_of, plan_of, mdf_of, dc_of, soak_of};
+ghost use Rattle.ff_words.specs.Rows.{given_of, operand, way_of, run_of, check_of, plan_of, mdf_of, dc_of, soak_of};
 
 use crate::number::read_number_in;
 use crate::rows::{kept_of, number_of, queue_of, rule_named, stands, text_of};
-use crate::{Command, CommandFault, DcRule, Given, Text};
+use crate::{Command, CommandFault, DcRule, Given, Text, Way};
 use clap::ArgMatches;
 use std::alloc::Global;
 
@@ -18,13 +18,15 @@ pub fn run_of(alloc: Global, matches: &ArgMatches<'_>) -> Result<Command, Comman
     let cap = number_of(matches, "cap", 1, 4096).ok_or(CommandFault::Usage)?;
     let queue = queue_of(matches).ok_or(CommandFault::Usage)?;
     let tasks = number_of(matches, "tasks", 1, 10_000_000).ok_or(CommandFault::Usage)?;
+    let way = way_of(stands(matches, "one"), stands(matches, "sweep"));
+    let way = way.ok_or(CommandFault::Usage)?;
     let rejects = kept_of(alloc, matches, "rejects")?;
     Ok(Command::Run {
         given,
         cap,
         queue,
         tasks: u64::from(tasks),
-        one: stands(matches, "one"),
+        way,
         rejects,
     })
 }
@@ -89,6 +91,18 @@ pub fn soak_of(matches: &ArgMatches<'_>) -> Option<Command>
         cap,
         queue,
     })
+}
+
+// The way of a run. `--one` and `--sweep` together are no command.
+fn way_of(one: bool, sweep: bool) -> Option<Way>
+    ensures { result ≡ way_of one sweep }
+{
+    match (one, sweep) {
+        (false, false) => Some(Way::Threads),
+        (true, false) => Some(Way::One),
+        (false, true) => Some(Way::Sweep),
+        (true, true) => None,
+    }
 }
 
 // One of a text and a file.

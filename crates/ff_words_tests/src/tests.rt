@@ -56,7 +56,7 @@ fn check_table(rt: &impl Abort, alloc: Global, table: &str) -> Result<u64, Fail>
 fn words_by_tables(rt: HostRuntime) -> Result<(), Fail> {
     let taken = check_table(&rt, rt.alloc(), TAKEN)?;
     let refused = check_table(&rt, rt.alloc(), REFUSED)?;
-    assert!(&rt; taken == 33 && refused == 99, "{taken} and {refused}");
+    assert!(&rt; taken == 34 && refused == 103, "{taken} and {refused}");
     let none = shown(rt.alloc(), &[])?;
     expect_shown(&rt, "no words", none.as_str(), "Usage");
     Ok(())

@@ -1,7 +1,7 @@
 // A stream that is taken in, and its work behind it.
 use super::nodes::Gate;
-use super::{Devices, SOUND, sink_of, source_of};
-use ff_io::{MemSink, MemSource};
+use super::{Devices, SOUND, Slow, sink_of, source_of};
+use ff_io::MemSink;
 use ff_net::Version;
 use ff_stream::{Flow, Halt, Report, RunFault, Stop, Work, open_flow, take_stream};
 use std::alloc::Global;
@@ -17,13 +17,7 @@ fn take_lines(
     by: Devices,
 ) -> Result<Result<Stop, Halt>, Fail> {
     let mut source = source_of(rt, alloc, b"1\n2\n3", by)?;
-    Ok(take_stream::<Gate, Flow<Gate>, MemSource, MemSink>(
-        alloc,
-        Version::One,
-        flow,
-        &mut source,
-        sink,
-    ))
+    Ok(take_stream::<Gate, Flow<Gate>, Slow, MemSink>(alloc, Version::One, flow, &mut source, sink))
 }
 
 // Pieces of two bytes: what is held is written behind each, and the last line is still held at the end.

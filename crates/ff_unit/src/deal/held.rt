@@ -108,7 +108,7 @@ impl Held {
     #[inline(always)]
     pub fn put_first<P: Ports<Record>>(&mut self, ports: &mut P) -> HeldPut
         requires { AreOpenOuts (P.puts ports.old) self.old }
-        ensures puts { PutsHeld self.old (P.puts ports.old) (P.rooms ports.old) result
+        ensures puts { PutsHeld P.grows self.old (P.puts ports.old) (P.rooms ports.old) result
             self.new (P.puts ports.new) (P.rooms ports.new) }
         ensures untouched { result ≡ HeldPut.Nothing → ports.new ≡ ports.old }
         ensures gots { P.gots ports.new ≡ P.gots ports.old }

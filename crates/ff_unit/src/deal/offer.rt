@@ -20,7 +20,7 @@ pub enum Offer {
 pub fn put_anywhere<P: Ports<Record>>(ports: &mut P, places: u32, r: Record) -> Offer
     requires open { (w : ℕ) → w < places → IsOpen (at (P.puts ports.old) w) }
     requires there { (w : ℕ) → w < places → w < length (P.puts ports.old) }
-    ensures offers { Offers places r (P.puts ports.old) (P.rooms ports.old) result
+    ensures offers { Offers P.grows places r (P.puts ports.old) (P.rooms ports.old) result
         (P.puts ports.new) (P.rooms ports.new) }
     ensures gots { P.gots ports.new ≡ P.gots ports.old }
     ensures link { P.link ports.new ≡ P.link ports.old }

@@ -1,11 +1,12 @@
 // How a merge steps.
 ghost use Rattle.std.specs.Prelude.{◌≡◌, [], true, false, length, slice_set};
+ghost use Rattle.ff_rec.specs.declared.msg.Msg.TheVariants.{Abort};
 ghost use Rattle.ff_unit.specs.Closing.{any_live, IsLive};
 ghost use Rattle.ff_unit.specs.Merges.{merge_does, merge_takes, merge_closes, forwarded};
 ghost use Rattle.ff_unit.specs.Units.{StepsOnce, StaysAt};
 
 use super::Merge;
-use crate::closing::{last_message, spoil};
+use crate::closing::{first_abort, last_eos, spoil};
 use crate::take_any;
 use ff_port::{End, Ports, Step};
 use ff_rec::{Msg, Record};
@@ -58,22 +59,30 @@ impl Merge {
             Msg::Mark => {}
             Msg::Pick(_) => {}
             Msg::Eos => self.close(k),
-            Msg::Abort => {
-                self.end = spoil(self.end);
-                self.close(k);
-            }
+            Msg::Abort => self.cut(k),
         }
     }
 
-    // A record goes on, but for want of memory.
+    // A record goes on while all goes well.
     fn forward(&mut self, r: Record)
         requires { self.old.held ≡ [] }
         ensures { self.new ≡ record self.old { held = forwarded self.old.end r } }
     {
         match self.end {
-            End::Memory => {}
-            _ => self.held = Some(Msg::Item(r)),
+            End::Eos => self.held = Some(Msg::Item(r)),
+            End::Abort | End::Memory => {}
         }
+    }
+
+    // In `k` was cut off, which is told at once: the other ins may stay silent for long.
+    fn cut(&mut self, k: usize)
+        requires held { self.old.held ≡ [] }
+        requires live { IsLive self.old.live k }
+        ensures { self.new ≡ merge_takes self.old k Abort }
+    {
+        self.live.close(k);
+        self.held = first_abort(self.end);
+        self.end = spoil(self.end);
     }
 
     // In `k` gives no more. The last in to end is that of the merge.
@@ -84,7 +93,7 @@ impl Merge {
     {
         self.live.close(k);
         if !self.live.any() {
-            self.held = last_message(self.end);
+            self.held = last_eos(self.end);
         }
     }
 

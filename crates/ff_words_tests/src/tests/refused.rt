@@ -22,6 +22,11 @@ plan | Usage
 plan -f a -- b | Usage
 mdf | Usage
 mdf a -f b | Usage
+// two ways of a run
+run id --one --sweep | Usage
+run --sweep id --one | Usage
+run id --sweep --sweep | Usage
+soak 1 --sweep | Usage
 // help and version
 run --help | Usage
 run -h | Usage

@@ -11,7 +11,7 @@ use Rattle.ff_unit.specs.Units.{Ran}
 use Rattle.ff_steps.specs.NetUnitLaws.{Ran-stage, Ran-deal, Ran-merge, Ran-omerge, Ran-master, Ran-worker}
 use Rattle.ff_steps.specs.NetUnits.{NetState, AsStage, AsDeal, AsMerge, AsOMerge, AsMaster, AsWorker, net_does}
 use Rattle.ff_steps.specs.PartViews.{state_of}
-use Rattle.ff_steps.proofs.StepsOn.{StepsOn-others}
+use Rattle.ff_steps.proofs.StepsOn.{StepsOn-others, ShortOnly-others}
 use Rattle.ff_steps.proofs.net_unit.NetUnitThreaded.step_many.Goals.{in-Stage, in-Deal, in-ODeal, in-Merge, in-OMerge, in-Master, in-Worker}
 use Rattle.ff_steps.proofs.net_unit.NetUnitThreaded.step_many.Goals as goal
 
@@ -89,4 +89,31 @@ returns-clause-steps g c =
           StepsOn-others (worker_does (comb_node b)) (net_does b) AsWorker (λ x act y step. (y, refl, step)) (λ x. refl) (λ x. refl) (λ x r. r)
           (sym c.self.view_is ∙ ap state_of w.in-Worker.is) w.result-is (ap (λ i. state_of i.part) w.self-inside-is)
           (ap g.P.Ports.gots w.ports-is) (ap g.P.Ports.puts w.ports-is) (ap g.P.Ports.waiting w.ports-is) w.step_on-in-Worker.ensures.steps
+    ]
+
+pub returns-clause-short : goal.returns-clause-short
+returns-clause-short g c =
+    let b = g.N.Node.does in
+    elim c.match-self.branch [
+      | in-Stage w ↦
+          ShortOnly-others (stage_does (comb_node b)) (net_does b) AsStage (λ x. refl) (λ x. refl) (sym c.self.view_is ∙ ap state_of w.in-Stage.is)
+          (ap (λ i. state_of i.part) w.self-inside-is) w.step_on.ensures.short
+      | in-Deal w ↦
+          ShortOnly-others deal_does (net_does b) AsDeal (λ x. refl) (λ x. refl) (sym c.self.view_is ∙ ap state_of w.in-Deal.is)
+          (ap (λ i. state_of i.part) w.self-inside-is) w.step_on-in-Deal.ensures.short
+      | in-ODeal w ↦
+          ShortOnly-others deal_does (net_does b) AsDeal (λ x. refl) (λ x. refl) (sym c.self.view_is ∙ ap state_of w.in-ODeal.is)
+          (ap (λ i. state_of i.part) w.self-inside-is) w.step_on-in-ODeal.ensures.short
+      | in-Merge w ↦
+          ShortOnly-others merge_does (net_does b) AsMerge (λ x. refl) (λ x. refl) (sym c.self.view_is ∙ ap state_of w.in-Merge.is)
+          (ap (λ i. state_of i.part) w.self-inside-is) w.step_on-in-Merge.ensures.short
+      | in-OMerge w ↦
+          ShortOnly-others omerge_does (net_does b) AsOMerge (λ x. refl) (λ x. refl) (sym c.self.view_is ∙ ap state_of w.in-OMerge.is)
+          (ap (λ i. state_of i.part) w.self-inside-is) w.step_on-in-OMerge.ensures.short
+      | in-Master w ↦
+          ShortOnly-others wrap_does (net_does b) AsMaster (λ x. refl) (λ x. refl) (sym c.self.view_is ∙ ap state_of w.in-Master.is)
+          (ap (λ i. state_of i.part) w.self-inside-is) w.step_on-in-Master.ensures.short
+      | in-Worker w ↦
+          ShortOnly-others (worker_does (comb_node b)) (net_does b) AsWorker (λ x. refl) (λ x. refl) (sym c.self.view_is ∙ ap state_of w.in-Worker.is)
+          (ap (λ i. state_of i.part) w.self-inside-is) w.step_on-in-Worker.ensures.short
     ]

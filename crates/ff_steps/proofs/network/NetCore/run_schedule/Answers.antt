@@ -6,7 +6,7 @@ use Rattle.ff_steps.specs.NetCores.{IsNetCore, IsGood}
 use Rattle.ff_steps.specs.NetUnitLaws.{IsUnit-nodes}
 use Rattle.ff_steps.specs.NetUnits.{net_does}
 use Rattle.ff_steps.proofs.NetBegins.{IsGood-core, IsNetCore-made}
-use Rattle.ff_steps.proofs.NetEnds.{TellsOver-core, Answers-core, number-core, held-core, held_of_one-core, held_of_node-core}
+use Rattle.ff_steps.proofs.NetEnds.{TellsOver-core, LogsAreRight-core, Answers-core, number-core, held-core, held_of_one-core, held_of_node-core}
 use Rattle.ff_steps.proofs.Schedules.{Follows-good, made-follows}
 use Rattle.ff_steps.proofs.network.NetCore.run_schedule.Goals as goal
 
@@ -41,6 +41,16 @@ returns-clause-over g c = λ done whole.
     (made-follows d (IsSound d) c.args.schedule.now c.args.self.now.core c.run_schedule.new.core c.run_schedule.ensures.follows) c.args.self.now.made in
     TellsOver-core b g.met.N.Node.keeps_kind (IsUnit-nodes b g.met.N.Node.keeps_kind g.met.N.Node.class_law) c.args.self.now.limit c.args.self.now.keep t c.checked_networks_are_good.ensures.good c.whole_runs.ensures c.run_schedule.new.core
     made c.run_schedule.ensures.sound (sym c.run_schedule.ensures.ended ∙ done) whole
+
+pub returns-clause-tasks : goal.returns-clause-tasks
+returns-clause-tasks g c = λ done whole.
+    let b = g.N.Node.does in
+    let d = net_does b in
+    let t = tree_of c.args.self.now.checked.net in
+    let made = IsNetCore-made b c.args.self.now.limit c.args.self.now.keep t c.args.self.now.core c.run_schedule.new.core
+    (made-follows d (IsSound d) c.args.schedule.now c.args.self.now.core c.run_schedule.new.core c.run_schedule.ensures.follows) c.args.self.now.made in
+    LogsAreRight-core b g.met.N.Node.keeps_kind (IsUnit-nodes b g.met.N.Node.keeps_kind g.met.N.Node.class_law) c.args.self.now.limit c.args.self.now.keep t c.checked_networks_are_good.ensures.good c.whole_runs.ensures c.run_schedule.new.core
+    made c.run_schedule.ensures.sound (sym c.run_schedule.ensures.ended ∙ done) whole (c.each_task_is_done_once.ensures c.args.self.now.limit)
 
 pub returns-clause-answers : goal.returns-clause-answers
 returns-clause-answers g c = λ done whole none.

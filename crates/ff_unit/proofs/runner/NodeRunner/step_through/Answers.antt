@@ -1,7 +1,6 @@
-use Rattle.std.proofs.Common.{◌≡◌, [], None, Some, refl, ap, sym, subst, ◌∙◌}
+use Rattle.std.proofs.Common.{◌≡◌, [], Some, refl, ap, sym, subst, ◌∙◌}
 use Rattle.ff_rec.specs.declared.msg.Msg.TheVariants.{Item}
 use Rattle.ff_node.specs.Runs.{Took}
-use Rattle.ff_unit.specs.Stage.{StageState}
 use Rattle.ff_unit.specs.StageLaws.{IsUnit-stage}
 use Rattle.ff_unit.specs.StageParts.{led_by}
 use Rattle.ff_unit.specs.StageSteps.{StageStep}

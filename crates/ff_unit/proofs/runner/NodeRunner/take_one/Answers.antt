@@ -1,4 +1,4 @@
-use Rattle.std.proofs.Common.{◌≡◌, [], None, refl, ap, sym, subst, ◌∙◌}
+use Rattle.std.proofs.Common.{◌≡◌, None, refl, ap, sym, subst, ◌∙◌}
 use Rattle.ff_port.specs.declared.answers.Step.TheVariants.{Moved}
 use Rattle.ff_unit.specs.StageParts.{led_by}
 use Rattle.ff_unit.specs.StageSteps.{behind_of}

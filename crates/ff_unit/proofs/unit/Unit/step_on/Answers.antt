@@ -1,6 +1,7 @@
-use Rattle.std.proofs.Common.{◌≡◌, ◌∙◌, ◌<◌, arith}
+use Rattle.std.proofs.Common.{◌∙◌, ◌<◌, arith}
 use Rattle.ff_port.specs.declared.answers.Step.TheVariants.{Moved}
-use Rattle.ff_unit.proofs.Through.{Ran-through, MovesSome-through, StepsOn-number, link-through}
+use Rattle.ff_unit.proofs.Through.{Ran-through, MovesSome-through, StepsOn-number, link-through, short-through, asks-through}
+use Rattle.ff_unit.proofs.UnitRuns.{short-then}
 use Rattle.ff_unit.proofs.unit.Unit.step_on.Goals as goal
 
 -- one turn more
@@ -16,6 +17,8 @@ loop-k-preserved g c =
       ran = Ran-through d g.P.Ports u before Moved v after laws c.in-Moved.ensures c.loop-k.invariant.ran;
       moved = MovesSome-through d g.P.Ports c.loop-k.k c.args.self.now c.args.ports.now u before v after c.loop-k.invariant.moved c.in-Moved.ensures;
       first = λ e. absurd (omega (arith, e));
+      short = short-then d laws g.P.Ports.grows c.args.self.now u v c.loop-k.invariant.asks c.loop-k.invariant.short (short-through d g.P.Ports u before Moved v after laws c.in-Moved.ensures);
+      asks = λ asks. c.loop-k.invariant.asks (asks-through d g.P.Ports u before Moved v after laws c.in-Moved.ensures asks);
       link = link-through d g.P.Ports u before Moved v after c.in-Moved.ensures ∙ c.loop-k.invariant.link;
     }
 

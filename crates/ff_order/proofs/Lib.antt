@@ -1,0 +1,3 @@
+pub mod OrderFronts
+pub mod ODealRests
+pub mod OMergeRests
