@@ -1,0 +1,10 @@
+pub mod CameBacks
+pub mod LinkedTasks
+pub mod ReaderLaws
+pub mod QueueLaws
+pub mod SchedulerSteps
+pub mod SchedulerBacks
+pub mod SchedulerOpens
+pub mod SchedulerIdles
+pub mod SchedulerViews
+pub mod StoreLaws

@@ -1,0 +1,11 @@
+pub mod Firsts
+pub mod Places
+pub mod Logs
+pub mod Answered
+pub mod Serves
+pub mod Ends
+pub mod Worked
+pub mod Kept
+pub mod Starts
+pub mod Makings
+pub mod Loops
