@@ -17,7 +17,7 @@ _ffrun() {
     --workers) values='1 2 4 8 16' ;;
     esac
     case ${COMP_WORDS[1]} in
-    run) options='--file --one --rejects --tasks --cap --queue' ;;
+    run) options='--file --one --sweep --rejects --tasks --cap --queue' ;;
     check | plan) options='--file' ;;
     soak) options='--workers --cap --queue' ;;
     esac

@@ -1,19 +1,22 @@
 -- The ends of fresh rings, by the numbers of their edges.
-use Rattle.std.proofs.Common.{◌≡◌, ◌<◌, ℕ, zero, suc, Option, None, Some, List, [], ◌∷◌, length, map, replicate, refl, sym, ap, ap₂, ◌∙◌, subst, arith}
+use Rattle.std.proofs.Common.{◌≡◌, ◌+◌, ◌<◌, ℕ, zero, suc, Option, None, Some, List, [], ◌∷◌, length, map, replicate, refl, sym, ap, ap₂, ◌∙◌, subst, arith}
 use Rattle.std.specs.List.{AllByRecursion, AllZip}
 use Rattle.std.specs.Prelude.{slice_index}
 use Rattle.std.proofs.lemmas.Option.{none-some, same_Some}
 use Rattle.ff_rec.specs.Lines.{Rec}
 use Rattle.ff_rec.specs.Weights.{Same}
 use Rattle.ff_plan.specs.Rows.{Row, range}
+use Rattle.ff_plan.specs.declared.layout.Edge.{Edge}
 use Rattle.ff_steps.proofs.Heads.{head-same, tail-same, cons≢nil}
 use Rattle.ff_unit.specs.Units.{Doing}
-use Rattle.ff_ring.specs.Ends.{got_of, put_of, room_of, read_ring, written_ring}
+use Rattle.ff_ring.specs.Ends.{got_of, put_of, room_of, read_ring, written_ring, IsMade}
 use Rattle.ff_ring.specs.Names.{RingName}
 use Rattle.ff_ring.specs.declared.ring_in.RingIn.{RingIn}
 use Rattle.ff_ring.specs.declared.ring_out.RingOut.{RingOut}
-use Rattle.ff_engine.specs.Boards.{AreFresh, AreNamed, IsFreshPair, IsFreshRing}
-use Rattle.ff_engine.specs.Jobs.{JobState, IsFresh, IsOpened}
+use Rattle.ff_engine.specs.Boards.{AreFresh, AreNamed, IsFreshPair, IsFreshRing, IsRingOf}
+use Rattle.ff_engine.specs.Jobs.{JobState, IsFresh, IsOpened, RingSize}
+use Rattle.ff_engine.specs.RingSizes.{size_of, size_for}
+use Rattle.ff_engine.specs.declared.delivery.Delivery.{Delivery}
 use Rattle.ff_engine.specs.Slots.{slot, EachKept, Holds, emptied, taken_out}
 use Rattle.ff_engine.proofs.SlotLaws.{AllZip-taken_out, EachKept-emptied, Holds-once}
 use Rattle.ff_engine.proofs.Wired.{below-wired, once-wired}
@@ -119,6 +122,23 @@ module _ (ins : List (Option (RingIn Rec))) (outs : List (Option (RingOut Rec)))
     writes = EachKept-emptied (λ e o. written_ring o ≡ name e) js outs named.writes;
   }
 
+-- the rings of edges are as long as these
+pub sizes-rings : (delivery : Delivery) (rows : List Row) (edges : List Edge) (outs : List (Option (RingOut Rec))) → AllZip (IsRingOf delivery rows) edges outs
+    → (size : ℕ → RingSize) (k : ℕ) → map (λ (edge : Edge). size_for edge.cap) edges ≡ map size (range k (length edges))
+    → (e : ℕ) (o : RingOut Rec) → slot outs e ≡ Some o → size_of o ≡ size (k + e)
+sizes-rings delivery rows [] [] all size k are e o is = absurd (none-some o is)
+sizes-rings delivery rows [] (s ∷ outs) all size k are e o is = absurd all
+sizes-rings delivery rows (edge ∷ edges) [] all size k are e o is = absurd all
+sizes-rings delivery rows (edge ∷ edges) (None ∷ outs) all size k are e o is = absurd all.0
+sizes-rings delivery rows (edge ∷ edges) (Some out ∷ outs) all size k are zero o is =
+    let made : IsMade edge.cap out = all.0.0 in
+    let same : size_of out ≡ size_for edge.cap = ap₂ (λ bundle slots. record { bundle = bundle; slots = slots }) made.size made.count in
+    let first : k ≡ k + 0 = omega arith in
+    ap size_of (sym (same_Some out o is)) ∙ same ∙ head-same are ∙ ap size first
+sizes-rings delivery rows (edge ∷ edges) (Some out ∷ outs) all size k are (suc e) o is =
+    let next : suc k + e ≡ k + suc e = omega arith in
+    sizes-rings delivery rows edges outs all.1 size (suc k) (tail-same are) e o is ∙ ap size next
+
 -- what is so of each end, by the number of its edge, is so of their lists
 pub map-ends : {A B : Type 0} (f : A → B) (name : ℕ → B) (ks : List ℕ) (xs : List A) → AllZip (λ e x. f x ≡ name e) ks xs → map f xs ≡ map name ks
 map-ends f name [] [] all = refl
@@ -154,14 +174,17 @@ module _ (ks : List ℕ) where
     pub writes-taken : (name : ℕ → RingName) → EachKept (λ e o. written_ring o ≡ name e) outs → map (λ o. written_ring o) xs ≡ map name ks
     writes-taken name named = map-ends (λ o. written_ring o) name ks xs (AllZip-taken_out (λ e o. written_ring o ≡ name e) ks outs xs named are)
 
+    pub sizes-taken : (size : ℕ → RingSize) → EachKept (λ e o. size_of o ≡ size e) outs → map (λ o. size_of o) xs ≡ map size ks
+    sizes-taken size sized = map-ends (λ o. size_of o) size ks xs (AllZip-taken_out (λ e o. size_of o ≡ size e) ks outs xs sized are)
+
     pub rooms-taken : EachKept (λ e o. 0 < room_of o) outs → (k : ℕ) → k < length ks → 0 < slice_index (map (λ o. room_of o) xs) k
     rooms-taken roomy = rooms-at (λ o. room_of o) ks xs (AllZip-taken_out (λ e o. 0 < room_of o) ks outs xs roomy are)
 
 -- a job of an opened unit made no step
-pub IsFresh-made : {U : Type 0} (d : Doing U) (row : Row) (u : U) (job : JobState U) (rooms : List ℕ) (reads writes : List RingName) → IsOpened d row u
-    → job ≡ record { unit = u; row = row; gots = replicate (length row.ins) []; puts = replicate (length row.outs) []; rooms = rooms; reads = reads; writes = writes }
+pub IsFresh-made : {U : Type 0} (d : Doing U) (row : Row) (u : U) (job : JobState U) (rooms : List ℕ) (sizes : List RingSize) (reads writes : List RingName) → IsOpened d row u
+    → job ≡ record { unit = u; row = row; gots = replicate (length row.ins) []; puts = replicate (length row.outs) []; rooms = rooms; sizes = sizes; reads = reads; writes = writes }
     → ((k : ℕ) → k < length row.outs → 0 < slice_index rooms k) → IsFresh d job
-IsFresh-made d row u job rooms reads writes opened is roomy = subst (λ j. IsFresh d j) (sym is) (record {
+IsFresh-made d row u job rooms sizes reads writes opened is roomy = subst (λ j. IsFresh d j) (sym is) (record {
   made = opened.made;
   opened = opened.opened;
   gots = ap (λ n. replicate n []) (sym opened.ins);

@@ -38,8 +38,8 @@ use Rattle.ff_engine.specs.Crews.{IsJoined}
 use Rattle.ff_engine.specs.Ends.{ends_by_eos}
 use Rattle.ff_engine.specs.Jobs.{JobState}
 use Rattle.ff_engine.specs.Lines.{Linked}
-use Rattle.ff_engine.specs.Networks.{UnitOf, HasFed, HasStopped, WorkedThrough}
-use Rattle.ff_engine.proofs.LineRuns.{AllEnded, Begun-joined, HasBroken-joined, IsOpen-joined, Over-joined, RunEnded-joined, WorkedThrough-joined}
+use Rattle.ff_engine.specs.Networks.{UnitOf, HasDoneTasks, HasFed, HasStopped, WorkedThrough}
+use Rattle.ff_engine.proofs.LineRuns.{AllEnded, Begun-joined, HasBroken-joined, HasDoneTasks-joined, IsOpen-joined, Over-joined, RunEnded-joined, WorkedThrough-joined}
 
 -- what holds at every answer
 pub on_err : {A E P : Type 0} (answer : Result A E) → P → OnErr answer P
@@ -118,7 +118,7 @@ module _ {N : Type 0} (b : Behaviour N) where
     broken = λ j w halt xs front. HasStopped b j (seen w) (jobs w) halt xs front
 
     -- it took these records
-    Goes-moves : (w v : W) (rs : List Rec) (t t' : Option (List ℕ)) → jobs v ≡ jobs w → Moves (seen w) (seen v) t t' → (seen v).put ≡ (seen w).put ++ carried rs
+    pub Goes-moves : (w v : W) (rs : List Rec) (t t' : Option (List ℕ)) → jobs v ≡ jobs w → Moves (seen w) (seen v) t t' → (seen v).put ≡ (seen w).put ++ carried rs
         → SameRings (seen w) (seen v) → Goes stands w rs v t t'
     Goes-moves w v rs t t' crew moved put same = record {
       put = moved.written;
@@ -133,7 +133,7 @@ module _ {N : Type 0} (b : Behaviour N) where
     OnOk-moves (Err halt) w v rs t t' crew moved put same = tt
 
     -- it broke off before it took the first of these records
-    Halts-breaks : (w v : W) (rs : List Rec) (halt : Halt) (t t' : Option (List ℕ)) → jobs v ≡ jobs w → Breaks (seen w) (seen v) t t'
+    pub Halts-breaks : (w v : W) (rs : List Rec) (halt : Halt) (t t' : Option (List ℕ)) → jobs v ≡ jobs w → Breaks (seen w) (seen v) t t'
         → ((seen w).holds ≡ true → halt ≡ NoMemory) → (seen v).put ≡ (seen w).put → SameRings (seen w) (seen v) → Halts stands broken w rs halt v t t'
     Halts-breaks w v rs halt t t' crew broke starves put same = record {
       put = broke.written;
@@ -150,6 +150,17 @@ module _ {N : Type 0} (b : Behaviour N) where
         → IfErr answer (λ halt. Halts stands broken w rs halt v t t')
     IfErr-breaks (Ok a) w v rs t t' crew broke starves put same = tt
     IfErr-breaks (Err halt) w v rs t t' crew broke starves put same = Halts-breaks w v rs halt t t' crew broke starves put same
+
+    -- a unit was short of memory, which came with what was shown
+    pub Halts-shown : (w v : W) (t t' : Option (List ℕ)) → Goes stands w [] v t t' → Halts stands broken w [] NoMemory v t t'
+    Halts-shown w v t t' goes = record {
+      put = goes.put;
+      taken = goes.taken;
+      first = [];
+      rest = [];
+      splits = refl;
+      leaves = λ j xs front at. inl (refl, goes.keeps j xs front at);
+    }
 
     -- a unit was short of memory
     pub Halts-cut : (w v : W) (rs : List Rec) (t : Option (List ℕ)) → jobs v ≡ jobs w → seen v ≡ seen w → Halts stands broken w rs NoMemory v t t
@@ -305,6 +316,14 @@ module _ {N : Type 0} (b : Behaviour N) (j : Job N) (c c' : CallerState)
   WorkedThrough-concluded (Ok a) end over (Ok report) concluded put = WorkedThrough-ended put concluded.out.units_ended
   WorkedThrough-concluded (Ok a) end over (Err fault) concluded put = tt
 
+  HasDoneTasks-concluded : {A : Type 0} (shown : Result A Halt) (end : Option End) (over : Bool) (answer : Result Report RunFault)
+      → Concludes (net_does b) shown end over us answer → over ≡ any_over us → OnOk shown (c'.put ≡ c.put ++ Eos ∷ []) → OnOk answer (HasDoneTasks b j xs)
+  HasDoneTasks-concluded (Err halt) end over answer concluded is put = subst (λ (a : Result Report RunFault). OnOk a (HasDoneTasks b j xs)) (sym concluded) tt
+  HasDoneTasks-concluded (Ok a) end over (Ok report) concluded is put =
+      let all = concluded.out.units_ended in
+      HasDoneTasks-joined b j jobs at.made before us taken worked worked' joined xs (closed-put put all) (AllEnded b us all) (sym is ∙ concluded.out.over_is)
+  HasDoneTasks-concluded (Ok a) end over (Err fault) concluded is put = tt
+
 -- the jobs handled all records, wherever a report came of it
 pub WorkedThrough-all : {N A : Type 0} (b : Behaviour N) (c c' : CallerState)
     (jobs : List (JobState (UnitOf N))) (before : List Message) (us : List (UnitOf N)) (taken : List Message)
@@ -315,6 +334,17 @@ pub WorkedThrough-all : {N A : Type 0} (b : Behaviour N) (c c' : CallerState)
 WorkedThrough-all b c c' jobs before us taken worked worked' joined puts gots shown end over (Ok report) concluded put = λ j xs front at.
     WorkedThrough-concluded b j c c' jobs xs front at before us taken worked worked' joined puts gots None None shown end over (Ok report) concluded put
 WorkedThrough-all b c c' jobs before us taken worked worked' joined puts gots shown end over (Err fault) concluded put = tt
+
+-- and did each task once
+pub HasDoneTasks-all : {N A : Type 0} (b : Behaviour N) (c c' : CallerState)
+    (jobs : List (JobState (UnitOf N))) (before : List Message) (us : List (UnitOf N)) (taken : List Message)
+    (worked worked' : ℕ) → IsJoined (net_does b) before jobs us taken worked worked' → before ≡ c'.put → taken ≡ c'.got
+    → (shown : Result A Halt) (end : Option End) (over : Bool) (answer : Result Report RunFault) → Concludes (net_does b) shown end over us answer → over ≡ any_over us
+    → OnOk shown (c'.put ≡ c.put ++ Eos ∷ [])
+    → OnOk answer ((j : Job N) (xs : List Rec) (front : List ℕ) → HasFed b j c jobs xs front → HasDoneTasks b j xs)
+HasDoneTasks-all b c c' jobs before us taken worked worked' joined puts gots shown end over (Ok report) concluded is put = λ j xs front at.
+    HasDoneTasks-concluded b j c c' jobs xs front at before us taken worked worked' joined puts gots None None shown end over (Ok report) concluded is put
+HasDoneTasks-all b c c' jobs before us taken worked worked' joined puts gots shown end over (Err fault) concluded is put = tt
 
 -- where Abort was put behind the records
 pub IsOpen-stopped : {N : Type 0} (b : Behaviour N) (j : Job N) (halt : Halt) (c c' : CallerState)

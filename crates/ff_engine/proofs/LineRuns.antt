@@ -26,7 +26,7 @@ use Rattle.ff_spawn.specs.CountLaws.{RoseBy-worked_after}
 use Rattle.ff_steps.proofs.Heads.{head-same, tail-same, cons≢nil}
 use Rattle.ff_steps.proofs.MessageLists.{closed-front, items-closed, carried-append}
 use Rattle.ff_steps.proofs.OverBegins.{BeginsAnswer-over}
-use Rattle.ff_steps.proofs.OverWhole.{HasAnswered-over, Over-over}
+use Rattle.ff_steps.proofs.OverWhole.{HasAnswered-over, LogsAreRight-over, Over-over}
 use Rattle.ff_steps.specs.OverEdges.{HasAnswered, RanAlong, RanOver}
 use Rattle.ff_steps.specs.NetUnits.{net_does, any_over}
 use Rattle.ff_steps.proofs.OverEnds.{HasEndedWell}
@@ -42,7 +42,7 @@ use Rattle.ff_unit.specs.Units.{Doing, end_of}
 use Rattle.ff_engine.specs.Crews.{IsJoined}
 use Rattle.ff_engine.specs.Ends.{ends_by_eos}
 use Rattle.ff_engine.specs.Jobs.{JobState, handled}
-use Rattle.ff_engine.specs.Networks.{UnitOf, AreJobsOf}
+use Rattle.ff_engine.specs.Networks.{UnitOf, AreJobsOf, HasDoneTasks}
 use Rattle.ff_engine.proofs.Finished.{openings-finished, rows-finished, taken-finished, RanAlong-finished}
 use Rattle.ff_engine.proofs.Handled.{handled-all}
 use Rattle.ff_engine.proofs.NetLaws.{IsUnit-laws}
@@ -195,6 +195,18 @@ module _ {N : Type 0} (b : Behaviour N) where
         answered : HasAnswered b j.tasks j.keep j.net xs us put
         answered =
             HasAnswered-over b made.laws.kind (IsUnit-laws b made.laws.kind made.laws.class) j.tasks j.keep j.net made.laws.good us got put over all xs fed (made.laws.whole_runs j.tasks) within
+
+        -- by the logs of its wraps each task was done once
+        pub HasDoneTasks-joined : HasDoneTasks b j xs
+        HasDoneTasks-joined = record {
+          units = us;
+          got = got;
+          put = put;
+          ran = over;
+          fed = fed;
+          within = within;
+          logs = LogsAreRight-over b made.laws.kind (IsUnit-laws b made.laws.kind made.laws.class) j.tasks j.keep j.net made.laws.good us got put over all xs fed (made.laws.log_laws j.tasks);
+        }
 
         -- all that the network sends was taken, where Eos was
         items-joined : (front : List Message) → taken ≡ closed front → items taken ≡ answered.ys

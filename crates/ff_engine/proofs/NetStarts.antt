@@ -16,7 +16,7 @@ use Rattle.ff_stream.specs.Streams.{Streams}
 use Rattle.ff_stream.proofs.Endings.{IsCutShort-none}
 use Rattle.ff_engine.specs.Callers.{CallerState}
 use Rattle.ff_engine.specs.Faults.{denied}
-use Rattle.ff_engine.specs.Jobs.{JobState}
+use Rattle.ff_engine.specs.Jobs.{JobState, RingSize}
 use Rattle.ff_engine.specs.Networks.{UnitOf, HasFed, HasLaws}
 use Rattle.ff_engine.specs.Runs.{NetRan}
 use Rattle.ff_engine.specs.Starts.{IsPrepared}
@@ -30,10 +30,10 @@ NetRan-denied j s NoMemory left faults taken = IsCutShort-none j s left taken
 module _ {N : Type 0} (b : Behaviour N) where
   -- nothing was put and nothing came, so no record was fed
   pub HasFed-prepared : (t : Tree N) (version : Version) (limit : ℕ) (keep : Bool) → HasLaws b t
-      → (c c' : CallerState) (jobs crew : List (JobState (UnitOf N))) (unit_room room ins outs : ℕ) → c' ≡ c → crew ≡ jobs
-      → (us' : List (UnitOf N)) (running : List (JobState (UnitOf N))) → IsPrepared b limit keep t c jobs us' unit_room running room ins outs
+      → (cap : ℕ) (first : RingSize) (c c' : CallerState) (jobs crew : List (JobState (UnitOf N))) (unit_room room ins outs : ℕ) → c' ≡ c → crew ≡ jobs
+      → (us' : List (UnitOf N)) (running : List (JobState (UnitOf N))) → IsPrepared b limit keep t cap first c jobs us' unit_room running room ins outs
       → HasFed b (job b t version limit keep) c' crew [] []
-  HasFed-prepared t version limit keep laws c c' jobs crew unit_room room ins outs same started us' running prepared =
+  HasFed-prepared t version limit keep laws cap first c c' jobs crew unit_room room ins outs same started us' running prepared =
       let j = job b t version limit keep in
       subst (λ s. HasFed b j s crew [] []) (sym same) (subst (λ js. HasFed b j c js [] []) (sym started) (record {
         put = prepared.put;
@@ -50,7 +50,7 @@ module _ {N : Type 0} (b : Behaviour N) where
       }))
 
   -- as many jobs as units
-  pub length-prepared : (t : Tree N) (limit : ℕ) (keep : Bool) (c : CallerState) (jobs : List (JobState (UnitOf N))) (unit_room room ins outs : ℕ)
-      (us : List (UnitOf N)) (running : List (JobState (UnitOf N))) → IsPrepared b limit keep t c jobs us unit_room running room ins outs → length jobs ≡ units t
-  length-prepared t limit keep c jobs unit_room room ins outs us running prepared =
+  pub length-prepared : (t : Tree N) (limit : ℕ) (keep : Bool) (cap : ℕ) (first : RingSize) (c : CallerState) (jobs : List (JobState (UnitOf N))) (unit_room room ins outs : ℕ)
+      (us : List (UnitOf N)) (running : List (JobState (UnitOf N))) → IsPrepared b limit keep t cap first c jobs us unit_room running room ins outs → length jobs ≡ units t
+  length-prepared t limit keep cap first c jobs unit_room room ins outs us running prepared =
       sym (length-map jobs (λ job. job.row)) ∙ ap length prepared.rows_are ∙ length-rows_of t

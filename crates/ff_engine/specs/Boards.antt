@@ -1,5 +1,5 @@
 -- The ends of rings, kept by the numbers of their edges.
-use Rattle.std.specs.Prelude.{◌≡◌, ℕ, ◌<◌, List, [], ◌++◌, map, Option, None, Some, Bool, true, false, slice_get}
+use Rattle.std.specs.Prelude.{◌≡◌, ℕ, ◌<◌, List, [], ◌++◌, map, Option, None, Some, Bool, true, false, if◌then◌else◌, slice_get}
 use Rattle.std.specs.Option.{option_map}
 use Rattle.ff_rec.specs.Lines.{Rec}
 use Rattle.ff_node.specs.Runs.{Message}
@@ -7,14 +7,14 @@ use Rattle.ff_plan.specs.Rows.{Row}
 use Rattle.ff_plan.specs.declared.kind.Party.{Party}
 use Rattle.ff_plan.specs.declared.kind.Party.TheVariants.{Caller, Unit as OfUnit}
 use Rattle.ff_plan.specs.declared.kind.UnitKind.{UnitKind}
-use Rattle.ff_plan.specs.declared.kind.UnitKind.TheVariants.{Stage, DealRr, DealBy, ODealRr, Master, Worker}
+use Rattle.ff_plan.specs.declared.kind.UnitKind.TheVariants.{Stage, DealRr, DealBy, ODealRr, OMergePick, Master, Worker}
 use Rattle.ff_plan.specs.declared.layout.Edge.{Edge}
 use Rattle.ff_ring.specs.Ends.{got_of, put_of, room_of, is_eager, is_eager_in, read_ring, written_ring, IsMade}
 use Rattle.ff_ring.specs.Names.{RingName}
 use Rattle.ff_ring.specs.declared.ring_in.RingIn.{RingIn}
 use Rattle.ff_ring.specs.declared.ring_out.RingOut.{RingOut}
 use Rattle.ff_ring.specs.declared.spins.Spins.{Spins}
-use Rattle.ff_ring.specs.declared.spins.Spins.TheVariants.{Few, Many}
+use Rattle.ff_ring.specs.declared.spins.Spins.TheVariants.{Few, Long, Many}
 use Rattle.ff_engine.specs.Slots.{EachKept}
 use Rattle.ff_engine.specs.declared.delivery.Delivery.{Delivery}
 use Rattle.ff_engine.specs.declared.delivery.Delivery.TheVariants.{Prompt, Gathered}
@@ -99,11 +99,13 @@ IsFirst None put = Unit {0}
 IsFirst (Some got) None = ⊥
 IsFirst (Some got) (Some put) = (rest : List Message) × (put ≡ got ++ rest)
 
--- how long the thread of such a unit spins: in a wrap each waits for the other's answer
-abbrev pub spins_for : UnitKind → Spins
-spins_for Master = Many
-spins_for Worker = Many
-spins_for _ = Few
+-- how long the thread of such a unit spins: in a wrap each waits for the other's answer, and over a ring of one slot each record comes
+-- alone, and so do answers to an ordered merge that is told who has each
+abbrev pub spins_for : Bool → UnitKind → Spins
+spins_for single Master = Many
+spins_for single Worker = Many
+spins_for single OMergePick = Long
+spins_for single _ = if single then Long else Few
 
 -- whether it naps before it hands over what it has gathered: a deal that hands it over at once wakes several readers for little each
 abbrev pub naps_for : UnitKind → Bool

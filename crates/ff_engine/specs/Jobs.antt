@@ -7,6 +7,11 @@ use Rattle.ff_plan.specs.Rows.{Row}
 use Rattle.ff_ring.specs.Names.{RingName}
 use Rattle.ff_unit.specs.Units.{Doing, Ran}
 
+-- how many messages a full bundle of a ring has, and for how many bundles the ring has slots
+pub record RingSize : Type 0 where
+  pub bundle : ℕ
+  pub slots : ℕ
+
 -- `U` is what is seen of the unit
 pub record JobState (U : Type 0) : Type 0 where
   pub unit : U
@@ -16,6 +21,8 @@ pub record JobState (U : Type 0) : Type 0 where
   pub gots : List (List Message)
   pub puts : List (List Message)
   pub rooms : List ℕ
+  -- how much the ring at each out holds
+  pub sizes : List RingSize
   -- the rings that its ins read and its outs write
   pub reads : List RingName
   pub writes : List RingName

@@ -2,6 +2,7 @@ pub mod Ends
 pub mod Slots
 pub mod Jobs
 pub mod Lines
+pub mod RingSizes
 pub mod Boards
 pub mod Crews
 pub mod Callers

@@ -46,7 +46,8 @@ impl Caller {
         bells: Vec<Arc<Bell, Global>>,
         holds: bool,
     ) -> Caller
-        ensures { caller_of result ≡ record {
+        ensures first { result.first ≡ first }
+        ensures seen { caller_of result ≡ record {
           put = put_of first;
           got = got_of last;
           text = [];
@@ -115,7 +116,7 @@ impl Caller {
         Some(m)
     }
 
-    /// Waits for the other ends. Before it parks it hands over what waits: the units wait for that.
+    /// Waits for the other ends. Before it parks it hands over what waits, and tells of what it took: the units wait for that.
     pub(crate) fn rest<R: Wait>(&mut self, rt: &R)
         ensures same { caller_of self.new ≡ caller_of self.old }
         ensures lies { hands_next self.old.pause ≡ true
@@ -123,6 +124,7 @@ impl Caller {
     {
         if self.pause.rest(rt) {
             self.first.flush();
+            self.last.tell();
         }
     }
 }

@@ -10,7 +10,7 @@ ghost use Rattle.ff_stream.specs.declared.fault.Halt.{Halt};
 ghost use Rattle.ff_engine.specs.Callers.{GoesOn, EndsOnce};
 ghost use Rattle.ff_engine.specs.Conclusions.{Concludes};
 ghost use Rattle.ff_engine.specs.Lines.{Linked};
-ghost use Rattle.ff_engine.specs.Networks.{HasFed, HasStopped, JoinsOnly, WorkedThrough};
+ghost use Rattle.ff_engine.specs.Networks.{HasDoneTasks, HasFed, HasStopped, JoinsOnly, WorkedThrough};
 ghost use Rattle.ff_engine.specs.Seen.{caller_of};
 
 use crate::NetJob;
@@ -43,6 +43,8 @@ impl<N: Node + Send + 'static, R: Wait + Drop + Send + 'static> Line<N, R> {
         ensures work { OnOk result ((j : Job N) (xs : List Rec) (front : List ℕ)
             → HasFed N.does j (caller_of self.caller) self.crew xs front
             → WorkedThrough j xs (S.worked by.old) (S.worked by.new)) }
+        ensures tasks { OnOk result ((j : Job N) (xs : List Rec) (front : List ℕ)
+            → HasFed N.does j (caller_of self.caller) self.crew xs front → HasDoneTasks N.does j xs) }
         ensures counts { O.faults sink.new ≡ output_count (O.faults sink.old) result }
         ensures joins { JoinsOnly (S.refused by.old) (S.refused by.new) (S.starts by.old) (S.starts by.new)
             (S.worked by.old) (S.worked by.new) }

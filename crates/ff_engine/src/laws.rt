@@ -9,7 +9,7 @@ ghost use Rattle.ff_engine.specs.Networks.{HasLaws};
 use ff_net::Checked;
 use ff_net::laws::checked_networks_are_good;
 use ff_node::Node;
-use ff_plan::laws::{cut_runs, whole_runs};
+use ff_plan::laws::{cut_runs, each_task_is_done_once, whole_runs};
 
 /// Each edge of a network's plan has one reader and one writer.
 pub(crate) fn plans_are_wired<N: Node>(checked: &Checked<N>)
@@ -25,4 +25,5 @@ pub(crate) fn plans_keep_laws<N: Node>(checked: &Checked<N>)
     checked_networks_are_good(checked);
     whole_runs(checked);
     cut_runs(checked);
+    each_task_is_done_once(checked);
 }

@@ -40,7 +40,11 @@ impl<N: Node, R: Wait + Drop> Intake<N> for Line<N, R> {
     }
 
     fn pause<O: Sink>(&mut self, sink: &mut O) -> Result<(), Halt> {
-        self.caller.show(&self.rt, sink)
+        self.caller.show(&self.rt, sink)?;
+        if self.caller.is_cut() {
+            return Err(Halt::NoMemory);
+        }
+        Ok(())
     }
 
     fn drops(&self) -> bool {

@@ -1,9 +1,11 @@
 // How the rings of a plan are made, and their ends given to the caller and to the jobs.
-ghost use Rattle.std.specs.Prelude.{◌≡◌, ◌≤◌, [], ◌∷◌, length, map, None, Some, All, IfOk, slice_set};
+ghost use Rattle.std.specs.Prelude.{◌≡◌, ℕ, ◌≤◌, [], ◌∷◌, length, map, None, Some, All, IfOk, slice_set};
 ghost use Rattle.std.specs.List.{AllZip};
+ghost use Rattle.ff_plan.specs.Rows.{range};
 ghost use Rattle.ff_ring.specs.Ends.{got_of, put_of, read_ring, written_ring};
-ghost use Rattle.ff_engine.specs.Jobs.{IsFresh, IsOpened};
+ghost use Rattle.ff_engine.specs.Jobs.{IsFresh, IsOpened, RingSize};
 ghost use Rattle.ff_engine.specs.Lines.{IsWired, Linked};
+ghost use Rattle.ff_engine.specs.RingSizes.{size_for, size_of, AreSized};
 ghost use Rattle.ff_engine.specs.Slots.{Holds, slot};
 
 use crate::bells::Bells;
@@ -42,6 +44,12 @@ pub(crate) fn link_units<U: Unit, R: Clone + Drop>(
     ensures units { IfOk result (λ n. map (λ job. job.unit) n.jobs.items ≡ units.items) }
     ensures rows { IfOk result (λ n. map (λ job. job.row) n.jobs.items ≡ rows.items) }
     ensures fresh { IfOk result (λ n. All (λ job. IsFresh U.does job) n.jobs.items) }
+    ensures sizes { IfOk result (λ n. (size : ℕ → RingSize)
+        → map (λ edge. size_for edge.cap) edges.now ≡ map size (range 0 (length edges.now))
+        → AreSized size n.jobs.items) }
+    ensures first { IfOk result (λ n. (size : ℕ → RingSize)
+        → map (λ edge. size_for edge.cap) edges.now ≡ map size (range 0 (length edges.now))
+        → size_of n.first ≡ size 0) }
     ensures put { IfOk result (λ n. put_of n.first ≡ []) }
     ensures got { IfOk result (λ n. got_of n.last ≡ []) }
     ensures ins { IfOk result (λ n. length n.board.ins.items ≡ length edges.now) }

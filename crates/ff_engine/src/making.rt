@@ -3,17 +3,18 @@ ghost use Rattle.std.specs.Prelude.{◌≡◌, ℕ, length, map, All, IfOk, OnOk
 ghost use Rattle.std.specs.List.{AllZip, flat_map};
 ghost use Rattle.ff_ring.specs.Names.{RingName};
 ghost use Rattle.ff_engine.specs.Boards.{AreFresh, AreNamed, naps_for, spins_for};
-ghost use Rattle.ff_engine.specs.Jobs.{IsFresh, IsOpened};
+ghost use Rattle.ff_engine.specs.Jobs.{IsFresh, IsOpened, RingSize};
 ghost use Rattle.ff_engine.specs.Lines.{HasEnds};
-ghost use Rattle.ff_engine.specs.Slots.{Holds, emptied};
+ghost use Rattle.ff_engine.specs.RingSizes.{size_of, AreSized};
+ghost use Rattle.ff_engine.specs.Slots.{EachKept, Holds, emptied};
 
 use crate::NetJob;
 use crate::bells::Bells;
 use crate::board::Board;
 use crate::slots::take_ends;
 use ff_plan::{UnitKind, UnitRow};
-use ff_rec::NoMemory;
-use ff_ring::{Pause, Spins};
+use ff_rec::{NoMemory, Record};
+use ff_ring::{Bell, Pause, RingIn, RingOut, Spins};
 use ff_unit::Unit;
 use std::alloc::Global;
 use std::sync::Arc;
@@ -37,6 +38,8 @@ pub(crate) fn make_jobs<U: Unit, R: Clone + Drop>(
     ensures ends { IfOk result (λ jobs. (name : ℕ → RingName)
         → AreNamed name board.old.ins.items board.old.outs.items
         → All (λ job. HasEnds name job) jobs.items) }
+    ensures sizes { IfOk result (λ jobs. (size : ℕ → RingSize)
+        → EachKept (λ e out. size_of out ≡ size e) board.old.outs.items → AreSized size jobs.items) }
     ensures places { OnOk result (length board.new.ins.items ≡ length board.old.ins.items) }
     ensures out_places { OnOk result (length board.new.outs.items ≡ length board.old.outs.items) }
 {
@@ -47,18 +50,31 @@ pub(crate) fn make_jobs<U: Unit, R: Clone + Drop>(
             unreachable!()
         };
         let bell = Arc::try_clone(bells.unit(jobs.len()))?;
-        let pause = Pause::new(bell, spins_of(row.kind), naps(row.kind));
-        jobs.push(make_job(alloc, unit, row, pause, rt, board)?)?;
+        jobs.push(make_job(alloc, unit, row, bell, rt, board)?)?;
     }
     Ok(jobs)
 }
 
-// How long the thread of a unit spins. A worker of a wrap waits for its next task, and the master for the answers.
-fn spins_of(kind: UnitKind) -> Spins
-    ensures { result ≡ spins_for kind }
+// How the thread of a unit between these ends waits.
+fn pause_of(
+    bell: Arc<Bell, Global>,
+    kind: UnitKind,
+    ins: &[RingIn<Record>],
+    outs: &[RingOut<Record>],
+) -> Pause {
+    let single = ins.iter().any(|inn| inn.is_single()) || outs.iter().any(|out| out.is_single());
+    Pause::new(bell, spins_of(kind, single), naps(kind))
+}
+
+// How long the thread of a unit spins. A worker of a wrap waits for its next task, and the master for the answers. Over a ring of one
+// slot each record comes alone, and so do answers to an ordered merge that is told who has each.
+fn spins_of(kind: UnitKind, single: bool) -> Spins
+    ensures { result ≡ spins_for single kind }
 {
     match kind {
         UnitKind::Master | UnitKind::Worker => Spins::Many,
+        UnitKind::OMergePick => Spins::Long,
+        _ if single => Spins::Long,
         _ => Spins::Few,
     }
 }
@@ -79,7 +95,7 @@ fn make_job<U: Unit, R: Clone + Drop>(
     alloc: Global,
     unit: U,
     row: UnitRow,
-    pause: Pause,
+    bell: Arc<Bell, Global>,
     rt: &R,
     board: &mut Board,
 ) -> Result<NetJob<U, R>, NoMemory>
@@ -92,10 +108,13 @@ fn make_job<U: Unit, R: Clone + Drop>(
     ensures fresh { IfOk result (λ job. IsFresh U.does job) }
     ensures ends { IfOk result (λ job. (name : ℕ → RingName)
         → AreNamed name board.old.ins.items board.old.outs.items → HasEnds name job) }
+    ensures sizes { IfOk result (λ job. (size : ℕ → RingSize)
+        → EachKept (λ e out. size_of out ≡ size e) board.old.outs.items → job.sizes ≡ map size job.row.outs) }
     ensures ins { OnOk result (board.new.ins.items ≡ emptied row.ins board.old.ins.items) }
     ensures outs { OnOk result (board.new.outs.items ≡ emptied row.outs board.old.outs.items) }
 {
     let ins = take_ends(alloc, row.ins.as_slice(), &mut board.ins)?;
     let outs = take_ends(alloc, row.outs.as_slice(), &mut board.outs)?;
+    let pause = pause_of(bell, row.kind, &ins, &outs);
     Ok(NetJob::new(unit, row, ins, outs, pause, rt.clone()?))
 }

@@ -3,6 +3,7 @@ ghost use Rattle.std.specs.Prelude.{◌≡◌, [], ◌∷◌, length, map, repli
 ghost use Rattle.ff_rec.specs.declared.msg.Msg.TheVariants.{Abort};
 ghost use Rattle.ff_ring.specs.Ends.{got_of, put_of, room_of, read_ring, written_ring};
 ghost use Rattle.ff_engine.specs.Jobs.{IsFresh, IsOpened};
+ghost use Rattle.ff_engine.specs.RingSizes.{size_of};
 
 use crate::stepping::run_unit;
 use ff_plan::UnitRow;
@@ -32,6 +33,7 @@ impl<U: Unit, R> Model for NetJob<U, R> {
     ghost use Rattle.ff_ring.specs.Ends.{got_of, put_of, room_of, read_ring, written_ring};
     ghost use Rattle.ff_unit.specs.Units.{Ran};
     ghost use Rattle.ff_engine.specs.Jobs.{JobState};
+    ghost use Rattle.ff_engine.specs.RingSizes.{size_of};
 
     ghost Value = { JobState U };
 
@@ -41,6 +43,7 @@ impl<U: Unit, R> Model for NetJob<U, R> {
       gots = map (λ i. got_of i) j.ports.ins.items;
       puts = map (λ o. put_of o) j.ports.outs.items;
       rooms = map (λ o. room_of o) j.ports.outs.items;
+      sizes = map (λ o. size_of o) j.ports.outs.items;
       reads = map (λ i. read_ring i) j.ports.ins.items;
       writes = map (λ o. written_ring o) j.ports.outs.items;
     } };
@@ -68,6 +71,7 @@ impl<U: Unit, R: Drop> NetJob<U, R> {
           gots = replicate (length row.ins) [];
           puts = replicate (length row.outs) [];
           rooms = map (λ o. room_of o) outs.items;
+          sizes = map (λ o. size_of o) outs.items;
           reads = map (λ i. read_ring i) ins.items;
           writes = map (λ o. written_ring o) outs.items;
         } }

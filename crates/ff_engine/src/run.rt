@@ -7,7 +7,9 @@ ghost use Rattle.ff_spawn.specs.Counts.{RoseBy};
 ghost use Rattle.ff_stream.specs.Endings.{Told};
 ghost use Rattle.ff_stream.specs.Jobs.{job};
 ghost use Rattle.ff_stream.specs.Streams.{streams};
+ghost use Rattle.ff_engine.specs.Networks.{HasDoneTasks};
 ghost use Rattle.ff_engine.specs.Runs.{NetRan, CountsNetInput, refused_count, net_output_count};
+ghost use Rattle.ff_engine.specs.Starts.{RanOverRings};
 
 use crate::laws::plans_keep_laws;
 use crate::line::Line;
@@ -52,6 +54,11 @@ pub fn run_net<
         (streams I.left I.ended I.faults O.taken source.old source.new sink.old sink.new)
         (λ (xs : List Rec). RoseBy (units (tree_of checked.now.net) + length xs)
         (S.worked spawner.old) (S.worked spawner.new)) ending) }
+    ensures tasks { IfOk result (λ ending. Told (job N.does (tree_of checked.now.net) checked.now.version limit keep)
+        (streams I.left I.ended I.faults O.taken source.old source.new sink.old sink.new)
+        (λ (xs : List Rec). HasDoneTasks N.does
+        (job N.does (tree_of checked.now.net) checked.now.version limit keep) xs) ending) }
+    ensures rings { OnOk result (RanOverRings N.does limit keep (tree_of checked.now.net) cap) }
     ensures starts { OnOk result (RoseBy (units (tree_of checked.now.net))
         (S.starts spawner.old) (S.starts spawner.new)) }
     ensures refusals { S.refused spawner.new ≡ refused_count (S.refused spawner.old) result }

@@ -4,7 +4,7 @@ ghost use Rattle.ff_rec.specs.Lines.{Rec};
 ghost use Rattle.ff_stream.specs.Endings.{Ran, Told, CountsInput, output_count};
 ghost use Rattle.ff_stream.specs.Jobs.{Job};
 ghost use Rattle.ff_stream.specs.Streams.{streams};
-ghost use Rattle.ff_engine.specs.Networks.{HasFed, JoinsOnly, WorkedThrough};
+ghost use Rattle.ff_engine.specs.Networks.{HasDoneTasks, HasFed, JoinsOnly, WorkedThrough};
 ghost use Rattle.ff_engine.specs.Seen.{caller_of};
 
 use crate::NetJob;
@@ -43,6 +43,10 @@ pub(crate) fn run_line<
         → HasFed N.does j (caller_of line.caller) line.crew [] []
         → Told j (streams I.left I.ended I.faults O.taken source.old source.new sink.old sink.new)
         (λ xs. WorkedThrough j xs (S.worked spawner.old) (S.worked spawner.new)) ending) }
+    ensures tasks { IfOk result (λ ending. (j : Job N) → j.version ≡ version
+        → HasFed N.does j (caller_of line.caller) line.crew [] []
+        → Told j (streams I.left I.ended I.faults O.taken source.old source.new sink.old sink.new)
+        (λ xs. HasDoneTasks N.does j xs) ending) }
     ensures joins { JoinsOnly (S.refused spawner.old) (S.refused spawner.new)
         (S.starts spawner.old) (S.starts spawner.new) (S.worked spawner.old) (S.worked spawner.new) }
     ensures input_faults { CountsInput (I.faults source.old) (I.faults source.new) result }

@@ -1,9 +1,10 @@
 // How the units of a network come into threads.
-ghost use Rattle.std.specs.Prelude.{◌≡◌, ◌≤◌, ◌+◌, [], length, map, vec_len, vec_capacity, All, IfOk, OnOk};
+ghost use Rattle.std.specs.Prelude.{◌≡◌, ◌≢◌, ◌≤◌, ◌+◌, [], length, map, vec_len, vec_capacity, All, IfOk, OnOk};
 ghost use Rattle.ff_net.specs.Tree.{tree_of};
 ghost use Rattle.ff_spawn.specs.Counts.{count_more, denied_after};
 ghost use Rattle.ff_engine.specs.Jobs.{IsFresh};
 ghost use Rattle.ff_engine.specs.Lines.{IsWired};
+ghost use Rattle.ff_engine.specs.RingSizes.{size_of};
 ghost use Rattle.ff_engine.specs.Starts.{IsPrepared};
 ghost use Rattle.ff_engine.specs.Seen.{caller_of};
 
@@ -37,8 +38,8 @@ pub(crate) fn prepare<N: Node + Send + 'static, R: Wait + Clone + Drop + Send + 
 ) -> Result<Prepared<NetUnit<N>, R>, NoMemory>
     requires low { 1 ≤ cap }
     requires high { cap ≤ 4096 }
-    ensures { IfOk result (λ p. IsPrepared N.does limit keep (tree_of checked.now.net) (caller_of p.caller)
-        p.jobs.items p.units.items (vec_capacity p.units) p.running.jobs p.running.room
+    ensures { IfOk result (λ p. IsPrepared N.does limit keep (tree_of checked.now.net) cap (size_of p.caller.first)
+        (caller_of p.caller) p.jobs.items p.units.items (vec_capacity p.units) p.running.jobs p.running.room
         (length p.board.ins.items) (length p.board.outs.items)) }
 {
     plans_keep_laws(checked);
@@ -62,7 +63,7 @@ pub(crate) fn prepare<N: Node + Send + 'static, R: Wait + Clone + Drop + Send + 
             alloc,
             first,
             last,
-            Pause::new(own, Spins::Few, false),
+            Pause::new(own, spins_at(cap), false),
             others,
             checked.has_wrap(),
         ),
@@ -72,6 +73,14 @@ pub(crate) fn prepare<N: Node + Send + 'static, R: Wait + Clone + Drop + Send + 
         running,
         rt: waits,
     })
+}
+
+// How long the calling thread spins, with rings of so many slots. Over one slot each record comes alone.
+fn spins_at(cap: u32) -> Spins
+    ensures single { cap ≡ 1 → result ≡ Spins.Long }
+    ensures more { cap ≢ 1 → result ≡ Spins.Few }
+{
+    if cap == 1 { Spins::Long } else { Spins::Few }
 }
 
 // Room for so many jobs while they run. It is a call of its own, since that jobs may go to another thread is shown for any

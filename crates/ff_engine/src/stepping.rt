@@ -38,13 +38,17 @@ pub(crate) fn run_unit<U: Threaded, P: Ports<Record>, R: Wait>(
                 wait(moved, ports, pause, rt);
                 moved = false;
             }
-            Step::Ended(_) => return,
+            Step::Ended(_) => {
+                // The caller may wait until all units rest.
+                pause.end();
+                return;
+            }
         }
     }
 }
 
-// Waits for the other ends. Where the unit moved since the last time, it hands over what waits and tries again at once: a reader may
-// wait for just that, and so for its answer this unit. One that naps keeps what waits, behind four naps at most. Each unit hands over
+// Waits for the other ends. Where the unit moved since the last time, it hands over what waits, tells of what it took, and tries again
+// at once: a reader may wait for just that, and so for its answer this unit. One that naps keeps what waits, behind four naps at most. Each unit hands over
 // before its thread parks. The answer is whether nothing is left then, which only a flush can tell.
 fn wait<P: Ports<Record>, R: Wait>(
     moved: bool,

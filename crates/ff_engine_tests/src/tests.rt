@@ -2,5 +2,6 @@
 mod devices;
 mod meeting;
 mod runs;
+mod short;
 mod slow;
 mod wraps;

@@ -127,4 +127,8 @@ impl Source for SoakSource {
         self.ended = portion == 0;
         Ok(portion)
     }
+
+    fn may_wait(&self) -> bool {
+        false
+    }
 }

@@ -42,15 +42,15 @@ fn a_refused_start_is_told(rt: HostRuntime) -> Result<(), Fail> {
 #[test]
 fn a_summary_in_lines(rt: HostRuntime) -> Result<(), Fail> {
     let summary = Summary {
-        records: 3,
+        records: 5,
         keys: 3,
-        total: 5106,
+        total: -5106,
     };
     let mut lines = Vec::new(rt.alloc());
     print_summary(&summary, &mut lines)?;
     assert_eq!(rt;
         lines.as_slice(),
-        b"records 3\nkeys 3\ntotal 5106\n".as_slice()
+        b"records 5\nkeys 3\ntotal -5106\n".as_slice()
     );
     Ok(())
 }

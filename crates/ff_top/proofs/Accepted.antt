@@ -34,7 +34,7 @@ None-description words given none is =
 
 -- a command that isn't built is given no text
 unbuilt_given : (job : Command) → is_built job ≡ false → given_to job ≡ None
-unbuilt_given (of.Run given cap queue tasks one rejects) not_built = absurd (cc)
+unbuilt_given (of.Run given cap queue tasks way rejects) not_built = absurd (cc)
 unbuilt_given (of.Check given) not_built = absurd (cc)
 unbuilt_given (of.Plan given) not_built = absurd (cc)
 unbuilt_given job not_built = refl
@@ -110,10 +110,11 @@ module _ (one : SpellingIsOfOneNet) (words : List (List ℕ)) (before now : Outs
       let same_net : broken.net ≡ t = IsSpelled-one one a.text broken.net t spelled a.spelled in
       let e : Some (fault.rule, fault.path) ≡ None = sym broken.breaks ∙ ap (λ (u : Tree OpState). first_fault op_node version u) same_net ∙ a.kept in cc
 
-  -- where no count rose, an accepted command is only stopped by a limit or for want of memory
+  -- where no count rose, an accepted command is only stopped by a limit, where it can't be swept, or for want of memory
   abbrev pub IsStop : Fault → Type 0
   IsStop (Run (run.Tasks m)) = Did words before now (Err (Run (run.Tasks m)))
   IsStop (Run (run.Line f n)) = Did words before now (Err (Run (run.Line f n)))
+  IsStop (Run run.NoSweep) = Did words before now (Err (Run run.NoSweep))
   IsStop (Words unread.NoMemory) = Unit {0}
   IsStop (Given given.NoMemory) = Unit {0}
   IsStop (Run run.NoMemory) = Unit {0}
@@ -132,6 +133,7 @@ module _ (one : SpellingIsOfOneNet) (words : List (List ℕ)) (before now : Outs
   IsStop-accepted (Given given.NoMemory) job t quiet a comes counts = tt
   IsStop-accepted (Run run.Refused) job t quiet a comes counts = quiet.starts (Rose-more before.refused now.refused counts.starts)
   IsStop-accepted (Run (run.Tasks m)) job t quiet a comes counts = comes
+  IsStop-accepted (Run run.NoSweep) job t quiet a comes counts = comes
   IsStop-accepted (Run run.Write) job t quiet a comes counts = quiet.output (Rose-more before.output_faults now.output_faults counts.output)
   IsStop-accepted (Run (run.Rejects name n)) job t quiet a comes counts = quiet.files (Rose-more before.files_faults now.files_faults counts.files)
   IsStop-accepted (Run (run.Read n)) job t quiet a comes counts = quiet.input (Rose-more before.input_faults now.input_faults counts.input)

@@ -1,5 +1,6 @@
 -- What is answered where no count of faults or refused starts rose, and which status comes with which answer.
 use Rattle.std.proofs.Common.{◌≡◌, ℕ, ◌≤◌, List, [], ◌∷◌, ◌++◌, Option, None, Some, IfSome, IsSome, IsSomeAnd, refl, sym, ap, subst, ◌∙◌, inl, inr, append-nil, arith}
+use Rattle.std.proofs.lemmas.Bool.{true≢false}
 use Rattle.std.specs.Prelude.{◌⊎◌, Bool, true, false, option_and_then, Contains, Result, Ok, Err}
 use Rattle.std.specs.Io.KnownBytes.{Consumes, IsAtEnd}
 use Rattle.ff_net.specs.Meaning.{Fine}
@@ -15,11 +16,11 @@ use Rattle.ff_text.specs.SpellingLaw.{SpellingIsOfOneNet}
 use Rattle.ff_plan.specs.declared.kind.Queue.{Queue}
 use Rattle.ff_top.proofs.Accepted.{None-description, Soak-description, DidSoak-description, Did-accepted, Did-refused, IsStop, IsStop-accepted, Rose-more}
 use Rattle.ff_top.proofs.Limited.{limit_by-left}
-use Rattle.ff_top.specs.Commands.{DoneWith, given_to, is_built, reads_input, IsInLimits, IsBeyond}
+use Rattle.ff_top.specs.Commands.{DoneWith, given_to, is_built, reads_input, IsInLimits, IsBeyond, IsUnswept}
 use Rattle.ff_top.specs.Endings.{Did, DidSoak, Comes, Counts, IsAccepted, IsRefused, IsComplete, ReadsNone, description}
 use Rattle.ff_top.specs.Messages.{fault_status, given_status, run_status, print_status, soak_status, status_of}
 use Rattle.ff_top.specs.Outside.{Outside, IsQuiet, streams_of}
-use Rattle.ff_top.specs.Running.{run_job}
+use Rattle.ff_top.specs.Running.{CannotSweep, MayRun, run_job}
 use Rattle.ff_top.specs.Texts.{version}
 use Rattle.ff_top.specs.declared.print.PrintFault.{PrintFault}
 use Rattle.ff_top.specs.declared.print.PrintFault.TheVariants as print
@@ -36,6 +37,7 @@ use Rattle.ff_words.specs.declared.command.Command.{Command}
 use Rattle.ff_words.specs.declared.command.Command.TheVariants as of
 use Rattle.ff_words.specs.declared.command.CommandFault.TheVariants as unread
 use Rattle.ff_words.specs.declared.command.Given.{Given as GivenText}
+use Rattle.ff_words.specs.declared.command.Way.{Way}
 
 -- what was read of an input that is known and at its end is all of it
 whole : (left now : Option (List ℕ)) (got bytes : List ℕ) → Consumes left now got → IsAtEnd now → left ≡ Some bytes → bytes ≡ got
@@ -95,53 +97,98 @@ module _ (law : ReadingLaw) (one : SpellingIsOfOneNet) (words : List (List ℕ))
 
   -- a command within its limits isn't stopped by one
   done-tasks : (job : Command) (t : Tree OpState) (m : ℕ) → IsQuiet before now → IsInLimits job t before.left → DoneWith job t before now (Err (Run (run.Tasks m))) → ⊥
-  done-tasks (of.Run given cap queue tasks one rejects) t m quiet within d = Overrun-within t tasks rejects quiet d.1 within
+  done-tasks (of.Run given cap queue tasks way rejects) t m quiet within d = Overrun-within t tasks rejects quiet d.1.1 within.1
   done-tasks (of.Check given) t m quiet within d = d
   done-tasks (of.Plan given) t m quiet within d = d
   done-tasks _ t m quiet within d = d
 
   done-line : (job : Command) (t : Tree OpState) (f : LineFault) (n : ℕ) → IsInLimits job t before.left → DoneWith job t before now (Err (Run (run.Line f n))) → ⊥
-  done-line (of.Run given cap queue tasks one rejects) t f n within d =
-      let input = known before.left _ within in
-      None-Some (limit_by version input.0) f input.2.0 (limited law before.left now.left d.ran.got input.0 f d.ran.reads d.ran.stops.0 input.1)
+  done-line (of.Run given cap queue tasks way rejects) t f n within d =
+      let input = known before.left _ within.1 in
+      let ran = d.1.ran in
+      None-Some (limit_by version input.0) f input.2.0 (limited law before.left now.left ran.got input.0 f ran.reads ran.stops.0 input.1)
   done-line (of.Check given) t f n within d = d
   done-line (of.Plan given) t f n within d = d
   done-line _ t f n within d = d
 
   -- a command that was done is within its limits
   beyond-done : (job : Command) (t : Tree OpState) (n : ℕ) → IsBeyond job t before.left → DoneWith job t before now (Ok n) → ⊥
-  beyond-done (of.Run given cap queue tasks one rejects) t n beyond d =
-      let input = known before.left _ beyond in
+  beyond-done (of.Run given cap queue tasks way rejects) t n beyond d =
+      let input = known before.left _ beyond.1 in
       let bytes = input.0 in
-      let stops = d.ran.stops in
-      let same = whole before.left now.left d.ran.got bytes d.ran.reads stops.2 input.1 in
+      let ran = d.1.ran in
+      let stops = ran.stops in
+      let same = whole before.left now.left ran.got bytes ran.reads stops.2 input.1 in
       elim input.2 [
         | inl passed ↦ (let f = some_of (limit_by version bytes) passed in
-            None-Some (limit_by version d.ran.got) f.0 stops.0 (ap (λ (b : List ℕ). limit_by version b) (sym same) ∙ f.1))
-        | inr over ↦ over (subst (λ xs. Fine op_node tasks t xs) (at_end d.ran.got bytes now.ended same stops.1) d.ran.answers.fine)
+            None-Some (limit_by version ran.got) f.0 stops.0 (ap (λ (b : List ℕ). limit_by version b) (sym same) ∙ f.1))
+        | inr over ↦ over (subst (λ xs. Fine op_node tasks t xs) (at_end ran.got bytes now.ended same stops.1) ran.answers.fine)
       ]
   beyond-done (of.Check given) t n beyond d = beyond
   beyond-done (of.Plan given) t n beyond d = beyond
   beyond-done _ t n beyond d = beyond
 
+  -- nor is one that is to be swept and can be told that it can't
+  may_sweep : (way : Way) (t : Tree OpState) → MayRun way t → CannotSweep way t → ⊥
+  may_sweep way t may cannot = true≢false (sym (may cannot.0) ∙ cannot.1)
+
+  done-unswept : (job : Command) (t : Tree OpState) → IsInLimits job t before.left → DoneWith job t before now (Err (Run run.NoSweep)) → ⊥
+  done-unswept (of.Run given cap queue tasks way rejects) t within d = may_sweep way t within.0 d.0
+  done-unswept (of.Check given) t within d = d
+  done-unswept (of.Plan given) t within d = d
+  done-unswept _ t within d = d
+
+  beyond-unswept : (job : Command) (t : Tree OpState) → IsBeyond job t before.left → DoneWith job t before now (Err (Run run.NoSweep)) → ⊥
+  beyond-unswept (of.Run given cap queue tasks way rejects) t beyond d = may_sweep way t beyond.0 d.0
+  beyond-unswept (of.Check given) t beyond d = d
+  beyond-unswept (of.Plan given) t beyond d = d
+  beyond-unswept _ t beyond d = d
+
+  -- what can't be swept isn't done, and passes no limit
+  unswept-done : (job : Command) (t : Tree OpState) (n : ℕ) → IsUnswept job t → DoneWith job t before now (Ok n) → ⊥
+  unswept-done (of.Run given cap queue tasks way rejects) t n cannot d = may_sweep way t d.0 cannot
+  unswept-done _ t n cannot d = cannot
+
+  unswept-tasks : (job : Command) (t : Tree OpState) (m : ℕ) → IsUnswept job t → DoneWith job t before now (Err (Run (run.Tasks m))) → ⊥
+  unswept-tasks (of.Run given cap queue tasks way rejects) t m cannot d = may_sweep way t d.0 cannot
+  unswept-tasks _ t m cannot d = cannot
+
+  unswept-line : (job : Command) (t : Tree OpState) (f : LineFault) (n : ℕ) → IsUnswept job t → DoneWith job t before now (Err (Run (run.Line f n))) → ⊥
+  unswept-line (of.Run given cap queue tasks way rejects) t f n cannot d = may_sweep way t d.0 cannot
+  unswept-line _ t f n cannot d = cannot
+
   done-status : (status : ℕ) (fault : Fault) (job : Command) (t : Tree OpState) → status ≡ fault_status fault → IsQuiet before now → IsAccepted words before job t → IsInLimits job t before.left
       → IsStop one words before now fault → (status ≡ 0) ⊎ (status ≡ 6)
   done-status status (Run (run.Tasks m)) job t is quiet a within stop = absurd (done-tasks job t m quiet within (Did-accepted one words before now (Err (Run (run.Tasks m))) job t a stop))
   done-status status (Run (run.Line f n)) job t is quiet a within stop = absurd (done-line job t f n within (Did-accepted one words before now (Err (Run (run.Line f n))) job t a stop))
+  done-status status (Run run.NoSweep) job t is quiet a within stop = absurd (done-unswept job t within (Did-accepted one words before now (Err (Run run.NoSweep)) job t a stop))
   done-status status (Words unread.NoMemory) job t is quiet a within stop = inr is
   done-status status (Given given.NoMemory) job t is quiet a within stop = inr is
   done-status status (Run run.NoMemory) job t is quiet a within stop = inr is
   done-status status (Print print.NoMemory) job t is quiet a within stop = inr is
   done-status status _ job t is quiet a within stop = absurd stop
 
-  beyond-status : (status : ℕ) (fault : Fault) → status ≡ fault_status fault → IsStop one words before now fault → (status ≡ 3) ⊎ (status ≡ 6)
-  beyond-status status (Run (run.Tasks m)) is stop = inl is
-  beyond-status status (Run (run.Line f n)) is stop = inl is
-  beyond-status status (Words unread.NoMemory) is stop = inr is
-  beyond-status status (Given given.NoMemory) is stop = inr is
-  beyond-status status (Run run.NoMemory) is stop = inr is
-  beyond-status status (Print print.NoMemory) is stop = inr is
-  beyond-status status _ is stop = absurd stop
+  beyond-status : (status : ℕ) (fault : Fault) (job : Command) (t : Tree OpState) → status ≡ fault_status fault → IsAccepted words before job t → IsBeyond job t before.left
+      → IsStop one words before now fault → (status ≡ 3) ⊎ (status ≡ 6)
+  beyond-status status (Run (run.Tasks m)) job t is a beyond stop = inl is
+  beyond-status status (Run (run.Line f n)) job t is a beyond stop = inl is
+  beyond-status status (Run run.NoSweep) job t is a beyond stop = absurd (beyond-unswept job t beyond (Did-accepted one words before now (Err (Run run.NoSweep)) job t a stop))
+  beyond-status status (Words unread.NoMemory) job t is a beyond stop = inr is
+  beyond-status status (Given given.NoMemory) job t is a beyond stop = inr is
+  beyond-status status (Run run.NoMemory) job t is a beyond stop = inr is
+  beyond-status status (Print print.NoMemory) job t is a beyond stop = inr is
+  beyond-status status _ job t is a beyond stop = absurd stop
+
+  unswept-status : (status : ℕ) (fault : Fault) (job : Command) (t : Tree OpState) → status ≡ fault_status fault → IsAccepted words before job t → IsUnswept job t
+      → IsStop one words before now fault → (status ≡ 2) ⊎ (status ≡ 6)
+  unswept-status status (Run (run.Tasks m)) job t is a cannot stop = absurd (unswept-tasks job t m cannot (Did-accepted one words before now (Err (Run (run.Tasks m))) job t a stop))
+  unswept-status status (Run (run.Line f n)) job t is a cannot stop = absurd (unswept-line job t f n cannot (Did-accepted one words before now (Err (Run (run.Line f n))) job t a stop))
+  unswept-status status (Run run.NoSweep) job t is a cannot stop = inl is
+  unswept-status status (Words unread.NoMemory) job t is a cannot stop = inr is
+  unswept-status status (Given given.NoMemory) job t is a cannot stop = inr is
+  unswept-status status (Run run.NoMemory) job t is a cannot stop = inr is
+  unswept-status status (Print print.NoMemory) job t is a cannot stop = inr is
+  unswept-status status _ job t is a cannot stop = absurd stop
 
   refused-status : (status : ℕ) (fault : Fault) → status ≡ fault_status fault → IsQuiet before now → IsRefused words before → Comes words before now (Err fault) → Counts before now (Err fault)
       → (status ≡ 2) ⊎ (status ≡ 6)
@@ -176,6 +223,10 @@ module _ (law : ReadingLaw) (one : SpellingIsOfOneNet) (words : List (List ℕ))
       | inl did ↦ absurd (beyond-done job t n beyond (Did-accepted one words before now (Ok n) job t a did))
       | inr ran ↦ absurd (DidSoak-description words before now (Ok n) a.given ran a.is_description)
     ];
+    unswept = λ quiet job t a cannot. elim comes [
+      | inl did ↦ absurd (unswept-done job t n cannot (Did-accepted one words before now (Ok n) job t a did))
+      | inr ran ↦ absurd (DidSoak-description words before now (Ok n) a.given ran a.is_description)
+    ];
     refused = λ quiet r. elim comes [
       | inl did ↦ absurd (Did-refused one words before now (Ok n) r did)
       | inr ran ↦ absurd (DidSoak-description words before now (Ok n) r.given ran r.is_description)
@@ -184,7 +235,8 @@ module _ (law : ReadingLaw) (one : SpellingIsOfOneNet) (words : List (List ℕ))
   }
   complete status (Err fault) is comes counts = record {
     done = λ quiet job t a within. done-status status fault job t is quiet a within (IsStop-accepted one words before now fault job t quiet a comes counts);
-    beyond = λ quiet job t a beyond. beyond-status status fault is (IsStop-accepted one words before now fault job t quiet a comes counts);
+    beyond = λ quiet job t a beyond. beyond-status status fault job t is a beyond (IsStop-accepted one words before now fault job t quiet a comes counts);
+    unswept = λ quiet job t a cannot. unswept-status status fault job t is a cannot (IsStop-accepted one words before now fault job t quiet a comes counts);
     refused = λ quiet r. refused-status status fault is quiet r comes counts;
     soaked = λ quiet m workers cap queue asked. soak-status status fault m workers cap queue is quiet asked comes counts;
   }
@@ -200,6 +252,7 @@ given_low _ = omega arith
 
 run_low : (cause : RunCause) → 2 ≤ run_status cause
 run_low run.Refused = omega arith
+run_low run.NoSweep = omega arith
 run_low (run.Tasks m) = omega arith
 run_low _ = omega arith
 
@@ -289,6 +342,7 @@ pub ReadsNone-early : (status : ℕ) (answer : Result ℕ Fault) (job : Option C
     → ReadsNone job answer
 ReadsNone-early status (Ok n) job is early = absurd (not_early status 0 is (inl refl) early)
 ReadsNone-early status (Err (Run run.Refused)) job is early = tt
+ReadsNone-early status (Err (Run run.NoSweep)) job is early = tt
 ReadsNone-early status (Err (Run (run.Tasks m))) job is early = not_early status 3 is (inr (inl (omega arith, omega arith))) early
 ReadsNone-early status (Err (Run run.Write)) job is early = not_early status 4 is (inr (inl (omega arith, omega arith))) early
 ReadsNone-early status (Err (Run (run.Rejects name n))) job is early = not_early status 4 is (inr (inl (omega arith, omega arith))) early
@@ -303,7 +357,7 @@ ReadsNone-early status (Err (Soak cause)) job is early = tt
 
 -- only `run` has the faults of a run
 reads_input-run : (job : Command) (t : Tree OpState) (before now : Outside) (cause : RunCause) → DoneWith job t before now (Err (Run cause)) → reads_input job ≡ true
-reads_input-run (of.Run given cap queue tasks one rejects) t before now cause h = refl
+reads_input-run (of.Run given cap queue tasks way rejects) t before now cause h = refl
 reads_input-run (of.Check given) t before now cause h = absurd h
 reads_input-run (of.Plan given) t before now cause h = absurd h
 reads_input-run job t before now cause h = absurd h
@@ -331,6 +385,7 @@ Contains-status status (Err (Given (given.File name))) is = (4, omega arith, sym
 Contains-status status (Err (Given given.NoMemory)) is = (6, omega arith, sym is)
 Contains-status status (Err (Given fault)) is = (2, omega arith, sym is)
 Contains-status status (Err (Run run.Refused)) is = (5, omega arith, sym is)
+Contains-status status (Err (Run run.NoSweep)) is = (2, omega arith, sym is)
 Contains-status status (Err (Run (run.Tasks m))) is = (3, omega arith, sym is)
 Contains-status status (Err (Run (run.Line f n))) is = (3, omega arith, sym is)
 Contains-status status (Err (Run run.NoMemory)) is = (6, omega arith, sym is)

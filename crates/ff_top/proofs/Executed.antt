@@ -1,5 +1,5 @@
 -- From what the parts of a call did to how the call ends.
-use Rattle.std.proofs.Common.{◌≡◌, ℕ, List, Option, None, Some, IsSomeAnd, refl, sym, ap, subst, ◌∙◌, inl, inr}
+use Rattle.std.proofs.Common.{◌≡◌, ◌⊎◌, ℕ, List, Option, None, Some, IsSomeAnd, refl, sym, ap, subst, ◌∙◌, inl, inr}
 use Rattle.std.specs.Prelude.{Bool, true, false, Result, Ok, Err, IfErr, option_and_then}
 use Rattle.std.proofs.KnownBytes.{Keeps-refl}
 use Rattle.ff_io.specs.FileLaws.{KeepsAll-trans, KeepsOthers-trans, KeepsOthers-from_KeepsAll}
@@ -17,7 +17,7 @@ use Rattle.ff_top.specs.Working.{Handled, Worked}
 use Rattle.ff_top.specs.declared.fault.Fault.{Fault}
 use Rattle.ff_top.specs.declared.fault.Fault.TheVariants as fault
 use Rattle.ff_top.specs.declared.run_cause.RunCause.{RunCause}
-use Rattle.ff_top.specs.declared.run_cause.RunCause.TheVariants.{Refused, Tasks, Write, Rejects, Read, Line, NoMemory}
+use Rattle.ff_top.specs.declared.run_cause.RunCause.TheVariants.{Refused, NoSweep, Tasks, Write, Rejects, Read, Line, NoMemory}
 use Rattle.ff_words.specs.Words.{command}
 use Rattle.ff_words.specs.declared.command.Command.{Command}
 use Rattle.ff_words.specs.declared.command.Command.TheVariants.{Run, Check, Plan}
@@ -74,6 +74,7 @@ module _ (j : Job OpState) (threads : Bool) (rejects : Option (List ℕ)) (befor
     others = others before.told mid now.told name kept h.others;
     work = λ by. record { starts = (h.work by).starts; worked = (h.work by).worked };
   }
+  Ran-early (Err NoSweep) h = (h.0, KeepsAll-trans before.told mid now.told kept h.1)
   Ran-early (Err Refused) h = (h.0, h.1, KeepsAll-trans before.told mid now.told kept h.2)
   Ran-early (Err (Tasks m)) h = (h.0, h.1, KeepsAll-trans before.told mid now.told kept h.2)
   Ran-early (Err Write) h = (h.0, KeepsAll-trans before.told mid now.told kept h.1)
@@ -100,6 +101,7 @@ pub ReadsNone-run : {P : Type 0} (job : Command) (answer : Result ℕ Fault) →
     → IfErr answer (λ fault. ReadsNone None (Err fault) → P) → P
 ReadsNone-run job (Ok n) is none early = let e : true ≡ false = sym is ∙ none in absurd (cc)
 ReadsNone-run job (Err (fault.Run Refused)) is none early = early tt
+ReadsNone-run job (Err (fault.Run NoSweep)) is none early = early tt
 ReadsNone-run job (Err (fault.Run (Tasks m))) is none early = absurd none
 ReadsNone-run job (Err (fault.Run Write)) is none early = absurd none
 ReadsNone-run job (Err (fault.Run (Rejects name n))) is none early = absurd none
@@ -116,9 +118,11 @@ ReadsNone-run job (Err (fault.Soak cause)) is none early = early tt
 abbrev stopped : RunCause → Result ℕ RunCause
 stopped cause = Err cause
 
--- of the faults of a run only a thread that was refused comes before anything is read
-pub ReadsNone-refused : {P : Type 0} (cause : RunCause) → ReadsNone None (Err (fault.Run cause)) → (stopped cause ≡ stopped Refused → P) → P
-ReadsNone-refused Refused none unread = unread refl
+-- of the faults of a run only that a thread was refused, or that it can't be swept, comes before anything is read
+pub ReadsNone-refused : {P : Type 0} (cause : RunCause) → ReadsNone None (Err (fault.Run cause))
+    → ((stopped cause ≡ stopped Refused) ⊎ (stopped cause ≡ stopped NoSweep) → P) → P
+ReadsNone-refused Refused none unread = unread (inl refl)
+ReadsNone-refused NoSweep none unread = unread (inr refl)
 ReadsNone-refused (Tasks m) none unread = absurd none
 ReadsNone-refused Write none unread = absurd none
 ReadsNone-refused (Rejects name n) none unread = absurd none
@@ -133,8 +137,8 @@ IsLate (fault.Print cause) = Unit {0}
 IsLate _ = ⊥
 
 IsLate-done : (job : Command) (t : Tree OpState) (before now : Outside) (f : Fault) → DoneWith job t before now (Err f) → IsLate f
-IsLate-done (Run given cap queue tasks one rejects) t before now (fault.Run cause) h = tt
-IsLate-done (Run given cap queue tasks one rejects) t before now f h = absurd h
+IsLate-done (Run given cap queue tasks way rejects) t before now (fault.Run cause) h = tt
+IsLate-done (Run given cap queue tasks way rejects) t before now f h = absurd h
 IsLate-done (Check given) t before now (fault.Print cause) h = tt
 IsLate-done (Check given) t before now f h = absurd h
 IsLate-done (Plan given) t before now (fault.Print cause) h = tt

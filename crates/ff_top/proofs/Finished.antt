@@ -17,9 +17,10 @@ use Rattle.ff_stream.specs.declared.ending.Stop.{Stop}
 use Rattle.ff_stream.specs.declared.ending.Stop.TheVariants as stop
 use Rattle.ff_top.specs.Finishing.{Answered, Closes, Finished, closing}
 use Rattle.ff_top.specs.Outside.{Outside, StaysOrRises, count_by, streams_of}
-use Rattle.ff_top.specs.Running.{Stored, Ran, RanByThreads, CountsRun, run_output, run_refused, run_job}
+use Rattle.ff_top.specs.Running.{AllowedBy, MayRun, Stored, Ran, RanByThreads, CountsRun, run_output, run_refused, run_job}
+use Rattle.ff_words.specs.declared.command.Way.{Way}
 use Rattle.ff_top.specs.declared.run_cause.RunCause.{RunCause}
-use Rattle.ff_top.specs.declared.run_cause.RunCause.TheVariants.{Refused, Tasks, Write, Rejects, NoMemory}
+use Rattle.ff_top.specs.declared.run_cause.RunCause.TheVariants.{Refused, NoSweep, Tasks, Write, Rejects, Read, Line, NoMemory}
 
 module _ (t : Tree OpState) (tasks : ℕ) (threads : Bool) (rejects : Option (List ℕ)) (before now : Outside) where
   abbrev j : Job OpState
@@ -129,3 +130,40 @@ Refused-finished tasks rejects (Err net.Refused) told now answer h is = refl
 Refused-finished tasks rejects (Err (net.Run run.Tasks)) told now answer h is = let e : stopped (Tasks tasks) ≡ stopped Refused = sym h.0 ∙ is in absurd (cc)
 Refused-finished tasks rejects (Err (net.Run run.Write)) told now answer h is = let e : stopped Write ≡ stopped Refused = sym h.0 ∙ is in absurd (cc)
 Refused-finished tasks rejects (Err (net.Run run.NoMemory)) told now answer h is = let e : stopped NoMemory ≡ stopped Refused = sym h.0 ∙ is in absurd (cc)
+
+-- this answer isn't that a network can't be swept
+abbrev pub IsSwept : Result ℕ RunCause → Type 0
+IsSwept (Err NoSweep) = ⊥
+IsSwept _ = Unit {0}
+
+IsSwept-closing : (why : Stop) (n : ℕ) → IsSwept (closing why n)
+IsSwept-closing stop.End n = tt
+IsSwept-closing stop.Read n = tt
+IsSwept-closing (stop.Line fault) n = tt
+
+-- nor is that of a run whose network answered
+pub IsSwept-finished : (tasks : ℕ) (rejects : Option (List ℕ)) (a : Result Ending NetFault) (told now : Option Holdings) (answer : Result ℕ RunCause)
+    → Finished tasks rejects a told now answer → IsSwept answer
+IsSwept-finished tasks rejects (Ok ending) told now answer closes = elim closes [
+  | inl done ↦ subst IsSwept (sym done.0) (IsSwept-closing ending.stop ending.report.rejected)
+  | inr lost ↦ elim lost [
+    | inl failed ↦ subst IsSwept (sym failed.is) tt
+    | inr out ↦ subst IsSwept (sym out.0) tt
+  ]
+]
+IsSwept-finished tasks rejects (Err net.Refused) told now answer h = subst IsSwept (sym h.0) tt
+IsSwept-finished tasks rejects (Err (net.Run run.Tasks)) told now answer h = subst IsSwept (sym h.0) tt
+IsSwept-finished tasks rejects (Err (net.Run run.Write)) told now answer h = subst IsSwept (sym h.0) tt
+IsSwept-finished tasks rejects (Err (net.Run run.NoMemory)) told now answer h = subst IsSwept (sym h.0) tt
+
+-- such an answer is allowed where the network may be run
+pub AllowedBy-may : (way : Way) (t : Tree OpState) (answer : Result ℕ RunCause) → IsSwept answer → MayRun way t → AllowedBy way t answer
+AllowedBy-may way t (Ok n) swept may = may
+AllowedBy-may way t (Err Refused) swept may = may
+AllowedBy-may way t (Err NoSweep) swept may = absurd swept
+AllowedBy-may way t (Err (Tasks m)) swept may = may
+AllowedBy-may way t (Err Write) swept may = may
+AllowedBy-may way t (Err (Rejects name n)) swept may = may
+AllowedBy-may way t (Err (Read n)) swept may = may
+AllowedBy-may way t (Err (Line f n)) swept may = may
+AllowedBy-may way t (Err NoMemory) swept may = may

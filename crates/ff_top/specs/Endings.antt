@@ -4,7 +4,7 @@ use Rattle.ff_net.specs.Tree.{Tree}
 use Rattle.ff_ops.specs.Operation.{OpState}
 use Rattle.ff_top.specs.Printing.{print_output}
 use Rattle.ff_plan.specs.declared.kind.Queue.{Queue}
-use Rattle.ff_top.specs.Commands.{DoneWith, SoakDone, given_to, is_built, reads_input, IsInLimits, IsBeyond}
+use Rattle.ff_top.specs.Commands.{DoneWith, SoakDone, given_to, is_built, reads_input, IsInLimits, IsBeyond, IsUnswept}
 use Rattle.ff_top.specs.Messages.{said, status_of, Tells}
 use Rattle.ff_top.specs.Outside.{Outside, World, IsUntouched, IsQuiet}
 use Rattle.ff_top.specs.Running.{run_files, run_output, run_refused, RunInput}
@@ -71,6 +71,7 @@ Comes words before now (Err (Soak cause)) = DidSoak words before now (Err (Soak 
 abbrev pub ReadsNone : Option Command → Result ℕ Fault → Type 0
 ReadsNone job (Ok n) = IsSomeAnd job (λ j. reads_input j ≡ false)
 ReadsNone job (Err (Run run.Refused)) = Unit {0}
+ReadsNone job (Err (Run run.NoSweep)) = Unit {0}
 ReadsNone job (Err (Run cause)) = ⊥
 ReadsNone job (Err fault) = Unit {0}
 
@@ -131,11 +132,14 @@ pub record IsRefused (words : List (List ℕ)) (before : Outside) : Type 0 where
   pub refused : (t : Tree OpState) → IsSpelled text t → KeepsRules t → ⊥
 
 -- What is answered where no count of faults rose and no start was refused, unless memory ran out: an accepted command over an
--- input within the limits is done, over another a limit is told, a text that isn't accepted is refused, and a soak is done.
+-- input within the limits is done, over another a limit is told, a network that is to be swept and can't be, or a text that isn't
+-- accepted, is refused, and a soak is done.
 pub record IsComplete (status : ℕ) (words : List (List ℕ)) (before now : Outside) : Type 0 where
   pub done : IsQuiet before now → (job : Command) (t : Tree OpState) → IsAccepted words before job t
       → IsInLimits job t before.left → (status ≡ 0) ⊎ (status ≡ 6)
   pub beyond : IsQuiet before now → (job : Command) (t : Tree OpState) → IsAccepted words before job t
       → IsBeyond job t before.left → (status ≡ 3) ⊎ (status ≡ 6)
+  pub unswept : IsQuiet before now → (job : Command) (t : Tree OpState) → IsAccepted words before job t
+      → IsUnswept job t → (status ≡ 2) ⊎ (status ≡ 6)
   pub refused : IsQuiet before now → IsRefused words before → (status ≡ 2) ⊎ (status ≡ 6)
   pub soaked : IsQuiet before now → (n workers cap : ℕ) (queue : Queue) → command words ≡ Some (of.Soak n workers cap queue) → (status ≡ 0) ⊎ (status ≡ 6)

@@ -84,6 +84,7 @@ given_message given.NoMemory = memory_message
 -- of `run`
 abbrev pub run_message : RunCause → List ℕ
 run_message run.Refused = refused_message
+run_message run.NoSweep = codes "ffrun: no sweep for this network\n"
 run_message (run.Tasks m) = codes "ffrun: more than " ++ decimal m ++ codes " tasks\n"
 run_message run.Write = write_message
 run_message (run.Rejects name rejected) = codes "ffrun: cannot write " ++ name ++ codes "\n"
@@ -145,6 +146,7 @@ given_status given.NoMemory = 6
 
 abbrev pub run_status : RunCause → ℕ
 run_status run.Refused = 5
+run_status run.NoSweep = 2
 run_status (run.Tasks m) = 3
 run_status (run.Line fault rejected) = 3
 run_status run.NoMemory = 6

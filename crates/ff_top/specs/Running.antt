@@ -1,9 +1,10 @@
 -- What the command `run` does with a network, at each of its answers.
-use Rattle.std.specs.Prelude.{◌≡◌, ℕ, ◌+◌, ◌⊎◌, Bool, true, not, is_some, List, length, Option, None, Some, Result, Ok, Err}
+use Rattle.std.specs.Prelude.{◌≡◌, ℕ, ◌+◌, ◌⊎◌, Bool, true, false, is_some, List, length, Option, None, Some, Result, Ok, Err}
 use Rattle.ff_rec.specs.Counts.{more}
 use Rattle.ff_rec.specs.Lines.{Rec, text}
 use Rattle.ff_io.specs.Files.{Holdings, HoldsBytes, KeepsAll, KeepsOthers}
 use Rattle.ff_net.specs.Counts.{units}
+use Rattle.ff_net.specs.Forms.{sweeps}
 use Rattle.ff_net.specs.Tree.{Tree}
 use Rattle.ff_ops.specs.Operation.{OpState, op_node}
 use Rattle.ff_spawn.specs.Counts.{RoseBy}
@@ -18,7 +19,9 @@ use Rattle.ff_stream.specs.declared.ending.Stop.TheVariants as stop
 use Rattle.ff_top.specs.Outside.{Outside, StaysOrRises, count_by, streams_of}
 use Rattle.ff_top.specs.Texts.{version}
 use Rattle.ff_top.specs.declared.run_cause.RunCause.{RunCause}
-use Rattle.ff_top.specs.declared.run_cause.RunCause.TheVariants.{Refused, Tasks, Write, Rejects, Read, Line, NoMemory}
+use Rattle.ff_top.specs.declared.run_cause.RunCause.TheVariants.{Refused, NoSweep, Tasks, Write, Rejects, Read, Line, NoMemory}
+use Rattle.ff_words.specs.declared.command.Way.{Way}
+use Rattle.ff_words.specs.declared.command.Way.TheVariants.{Threads, One, Sweep}
 
 -- the job of a network that is run: with a name for the rejected records, these are kept
 abbrev pub run_job : Tree OpState → ℕ → Option (List ℕ) → Job OpState
@@ -35,8 +38,23 @@ Stored None kept told now = KeepsAll told now
 Stored (Some name) kept told now = HoldsBytes now name (text kept) × KeepsOthers told now name
 
 -- a network is run by threads unless the words ask for one thread
-abbrev pub by_threads : Bool → Bool
-by_threads one = not one
+abbrev pub by_threads : Way → Bool
+by_threads Threads = true
+by_threads One = false
+by_threads Sweep = false
+
+-- what is to be swept can be: no wrap stands in it, and nothing goes on demand
+abbrev pub MayRun : Way → Tree OpState → Type 0
+MayRun way t = way ≡ Sweep → sweeps t ≡ true
+
+-- it is to be swept, and can't be
+abbrev pub CannotSweep : Way → Tree OpState → Type 0
+CannotSweep way t = (way ≡ Sweep) × (sweeps t ≡ false)
+
+-- that a network can't be swept is answered exactly where it is to be
+abbrev pub AllowedBy : Way → Tree OpState → Result ℕ RunCause → Type 0
+AllowedBy way t (Err NoSweep) = CannotSweep way t
+AllowedBy way t _ = MayRun way t
 
 -- so many threads more were started as there are units, or more, and they handled as many messages as there are records and units
 -- together, or more
@@ -73,6 +91,8 @@ pub record HasRunOut (j : Job OpState) (threads : Bool) (rejects : Option (List 
 
 -- how the run of a network ends
 abbrev pub Ran : Job OpState → Bool → Option (List ℕ) → Outside → Outside → Result ℕ RunCause → Type 0
+Ran j threads rejects before now (Err NoSweep) =
+    IsUntouched (streams_of before now) × KeepsAll before.told now.told
 Ran j threads rejects before now (Ok n) = HasStored j threads rejects before now stop.End n
 Ran j threads rejects before now (Err (Read n)) = HasStored j threads rejects before now stop.Read n
 Ran j threads rejects before now (Err (Line fault n)) = HasStored j threads rejects before now (stop.Line fault) n
@@ -106,6 +126,7 @@ abbrev pub RunInput : ℕ → ℕ → RunCause → Type 0
 RunInput before now (Read k) = now ≡ more before
 RunInput before now (Line fault k) = now ≡ before
 RunInput before now Refused = now ≡ before
+RunInput before now NoSweep = now ≡ before
 RunInput before now _ = StaysOrRises before now
 
 abbrev pub CountsRun : ℕ → ℕ → Result ℕ RunCause → Type 0

@@ -1,7 +1,8 @@
 // From words to what they do.
-ghost use Rattle.std.specs.Prelude.{◌≡◌, true, None, Some, Err, IfErr, IsSomeAnd};
+ghost use Rattle.std.specs.Prelude.{◌≡◌, true, false, None, Some, Err, IfErr, IsSomeAnd};
 ghost use Rattle.ff_top.specs.Commands.{PrintDone, RunDone, SoakDone, works_alone};
 ghost use Rattle.ff_top.specs.Endings.{Comes, Counts, ReadsNone};
+ghost use Rattle.ff_top.specs.Running.{by_threads};
 ghost use Rattle.ff_top.specs.Working.{Handled, Worked};
 ghost use Rattle.ff_words.specs.Parsed.{texts};
 ghost use Rattle.ff_words.specs.Words.{command};
@@ -71,14 +72,14 @@ fn work<
             given,
             cap,
             tasks,
-            one,
+            way,
             rejects,
             ..
         } => {
             let order = Order {
                 cap,
                 tasks,
-                one,
+                way,
                 rejects,
             };
             run_given(rt, alloc, given, order, devices)
@@ -111,16 +112,16 @@ fn run_given<
     devices: &mut Devices<F, I, O, E, S>,
 ) -> Result<u64, Fault>
     ensures handled { let seen = ⟦<Devices<F, I, O, E, S> as Seen>⟧.outside in
-        Handled given (RunDone order.tasks order.one order.rejects)
+        Handled given (RunDone order.tasks order.way order.rejects)
         (seen devices.old) (seen devices.new) result }
     ensures counts { let seen = ⟦<Devices<F, I, O, E, S> as Seen>⟧.outside in
         Counts (seen devices.old) (seen devices.new) result }
     ensures input { IfErr result (λ fault. ReadsNone None (Err fault) → devices.new.input ≡ devices.old.input) }
-    ensures alone { order.one ≡ true → devices.new.spawner ≡ devices.old.spawner }
+    ensures alone { by_threads order.way ≡ false → devices.new.spawner ≡ devices.old.spawner }
     ensures err { devices.new.err ≡ devices.old.err }
 {
     match read_given(alloc, &mut devices.files, given) {
-        Ok(checked) => match run(rt, alloc, &checked, order, devices) {
+        Ok(checked) => match run(rt, alloc, checked, order, devices) {
             Ok(rejected) => Ok(rejected),
             Err(cause) => Err(Fault::Run(cause)),
         },

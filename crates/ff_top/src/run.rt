@@ -1,10 +1,10 @@
 // The command `run`: a network over the records of the input.
-ghost use Rattle.std.specs.Prelude.{◌≡◌, true, Err};
+ghost use Rattle.std.specs.Prelude.{◌≡◌, ◌⊎◌, false, Err, MatchBool};
 ghost use Rattle.ff_net.specs.Tree.{tree_of};
 ghost use Rattle.ff_engine.specs.Runs.{CountsNetInput, net_output_count, refused_count};
 ghost use Rattle.ff_top.specs.Finishing.{Answered, closing, Finished};
 ghost use Rattle.ff_top.specs.Outside.{count_by};
-ghost use Rattle.ff_top.specs.Running.{Ran, RunCounts, by_threads, run_files, run_job};
+ghost use Rattle.ff_top.specs.Running.{AllowedBy, CannotSweep, MayRun, Ran, RunCounts, by_threads, run_files, run_job};
 ghost use Rattle.ff_top.specs.Texts.{version};
 
 use crate::devices::{Devices, Seen};
@@ -16,7 +16,8 @@ use ff_net::Checked;
 use ff_ops::Op;
 use ff_single::{Ending, RunFault, Stop, run_single};
 use ff_spawn::Spawner;
-use ff_words::Text;
+use ff_sweeps::run_swept;
+use ff_words::{Text, Way};
 use std::alloc::Global;
 use std::sync::Wait;
 
@@ -27,8 +28,7 @@ pub struct Order {
     pub cap: u32,
     /// The most tasks of a wrap.
     pub tasks: u64,
-    /// Whether the calling thread does all the work.
-    pub one: bool,
+    pub way: Way,
     /// The file for the rejected records.
     pub rejects: Option<Text>,
 }
@@ -44,26 +44,42 @@ pub fn run<
 >(
     rt: &R,
     alloc: Global,
-    checked: &Checked<Op>,
+    checked: Checked<Op>,
     order: Order,
     devices: &mut Devices<F, I, O, E, S>,
 ) -> Result<u64, RunCause>
-    requires { checked.now.version ≡ version }
+    requires { checked.version ≡ version }
+    ensures allowed { AllowedBy order.way (tree_of checked.net) result }
     ensures ran { let seen = ⟦<Devices<F, I, O, E, S> as Seen>⟧.outside in
-        let job = run_job (tree_of checked.now.net) order.tasks order.rejects in
-        Ran job (by_threads order.one) order.rejects
+        let job = run_job (tree_of checked.net) order.tasks order.rejects in
+        Ran job (by_threads order.way) order.rejects
         (seen devices.old) (seen devices.new) result }
     ensures counts { let seen = ⟦<Devices<F, I, O, E, S> as Seen>⟧.outside in
         RunCounts (seen devices.old) (seen devices.new) result }
-    ensures unread { result ≡ Err RunCause.Refused → devices.new.input ≡ devices.old.input }
-    ensures alone { order.one ≡ true → devices.new.spawner ≡ devices.old.spawner }
+    ensures unread { (result ≡ Err RunCause.Refused) ⊎ (result ≡ Err RunCause.NoSweep)
+        → devices.new.input ≡ devices.old.input }
+    ensures alone { by_threads order.way ≡ false → devices.new.spawner ≡ devices.old.spawner }
     ensures err { devices.new.err ≡ devices.old.err }
 {
+    if !may_run(order.way, &checked) {
+        return Err(RunCause::NoSweep);
+    }
     let answer = answer(rt, alloc, checked, &order, devices);
     finish(alloc, order, &mut devices.files, answer)
 }
 
-// Runs a network: by threads, or on the calling thread where that is asked for.
+// Whether a network may be run in this way.
+fn may_run(way: Way, checked: &Checked<Op>) -> bool
+    ensures { MatchBool result (MayRun way (tree_of checked.now.net))
+        (CannotSweep way (tree_of checked.now.net)) }
+{
+    match way {
+        Way::Sweep => checked.sweeps(),
+        Way::Threads | Way::One => true,
+    }
+}
+
+// Runs a network in the way that is asked for.
 fn answer<
     F: Files,
     I: Source,
@@ -74,20 +90,21 @@ fn answer<
 >(
     rt: &R,
     alloc: Global,
-    checked: &Checked<Op>,
+    checked: Checked<Op>,
     order: &Order,
     devices: &mut Devices<F, I, O, E, S>,
 ) -> Result<Ending, NetFault>
-    requires { checked.now.version ≡ version }
+    requires version { checked.version ≡ version }
+    requires may { MayRun order.now.way (tree_of checked.net) }
     ensures ran { let seen = ⟦<Devices<F, I, O, E, S> as Seen>⟧.outside in
-        let job = run_job (tree_of checked.now.net) order.now.tasks order.now.rejects in
-        Answered job (by_threads order.now.one)
+        let job = run_job (tree_of checked.net) order.now.tasks order.now.rejects in
+        Answered job (by_threads order.now.way)
         (seen devices.old) (seen devices.new) result }
     ensures input_faults { CountsNetInput (I.faults devices.old.input) (I.faults devices.new.input) result }
     ensures output_faults { O.faults devices.new.out ≡ net_output_count (O.faults devices.old.out) result }
     ensures refusals { S.refused devices.new.spawner ≡ refused_count (S.refused devices.old.spawner) result }
     ensures unread { result ≡ Err NetFault.Refused → devices.new.input ≡ devices.old.input }
-    ensures alone { order.now.one ≡ true → devices.new.spawner ≡ devices.old.spawner }
+    ensures alone { by_threads order.now.way ≡ false → devices.new.spawner ≡ devices.old.spawner }
     ensures files { devices.new.files ≡ devices.old.files }
     ensures err { devices.new.err ≡ devices.old.err }
 {
@@ -98,24 +115,25 @@ fn answer<
         spawner,
         ..
     } = devices;
-    if order.one {
-        return Ok(run_single(alloc, checked, order.tasks, keep, input, out)?);
-    }
     // The words allow no other size. The clamp tells the prover so.
     let cap = order.cap.clamp(1, 4096);
-    // No operation waits for another one, and each takes next to no time for a record.
-    run_net(
-        rt,
-        alloc,
-        checked,
-        cap,
-        Delivery::Gathered,
-        order.tasks,
-        keep,
-        input,
-        out,
-        spawner,
-    )
+    match order.way {
+        Way::One => Ok(run_single(alloc, &checked, order.tasks, keep, input, out)?),
+        Way::Sweep => Ok(run_swept(alloc, checked, cap, order.tasks, keep, input, out)?),
+        Way::Threads => run_net(
+            rt,
+            alloc,
+            &checked,
+            cap,
+            // No operation waits for another one, and each takes next to no time for a record.
+            Delivery::Gathered,
+            order.tasks,
+            keep,
+            input,
+            out,
+            spawner,
+        ),
+    }
 }
 
 // Stores the rejected records of a run that came to an end, and tells how it ended.

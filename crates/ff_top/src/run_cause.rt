@@ -12,6 +12,8 @@ use ff_words::Text;
 pub enum RunCause {
     /// The start of a thread was refused.
     Refused,
+    /// The network can't be swept: a wrap stands in it, or something goes on demand.
+    NoSweep,
     /// A wrap has more than so many tasks.
     Tasks(u64),
     /// The output took no more bytes.
@@ -31,6 +33,7 @@ impl RunCause {
         ensures { result ≡ run_status self.now }
     {
         match self {
+            RunCause::NoSweep => 2,
             RunCause::Tasks(_) | RunCause::Line(_, _) => 3,
             RunCause::Write | RunCause::Rejects(_, _) | RunCause::Read(_) => 4,
             RunCause::Refused => 5,
@@ -57,6 +60,7 @@ impl RunCause {
     {
         match self {
             RunCause::Refused => write_piece(sink, b"ffrun: a thread was refused\n"),
+            RunCause::NoSweep => write_piece(sink, b"ffrun: no sweep for this network\n"),
             RunCause::Tasks(most) => write_number(sink, b"ffrun: more than ", *most, b" tasks\n"),
             RunCause::Write => write_full(sink),
             RunCause::Rejects(name, _) => {

@@ -56,12 +56,13 @@ pub fn ffrun<
     ensures unread_by { IsSomeAnd (command (texts words.now)) (λ job. reads_input job ≡ false)
         → devices.new.input ≡ devices.old.input }
 
-    // With `--one`, and by `check` and `plan`, what starts threads is the same value behind the call.
+    // With `--one` or `--sweep`, and by `check` and `plan`, what starts threads is the same value behind the call.
     ensures alone { IsSomeAnd (command (texts words.now)) (λ job. works_alone job ≡ true)
         → devices.new.spawner ≡ devices.old.spawner }
 
     // Where no count of faults or refused starts rose, and unless memory ran out: an accepted command over an input within the limits is
-    // done, over another input a limit is told, a text that isn't accepted is refused, and a soak is done.
+    // done, over another input a limit is told, a network that is to be swept and can't be, or a text that isn't accepted, is refused,
+    // and a soak is done.
     ensures complete { let seen = ⟦<Devices<F, I, O, E, S> as Seen>⟧.outside in
         IsComplete result (texts words.now) (seen devices.old) (seen devices.new) }
 {

@@ -2,7 +2,7 @@
 ghost use Rattle.std.specs.Prelude.{◌≤◌};
 
 use cases::{Case, case_of, is_call, text_of, words_of};
-use ff_io::{MemFiles, MemSink, MemSource, ShortSink};
+use ff_io::{MemFiles, MemSink, MemSource, ShortSink, SlowSource};
 use ff_spawn::{RefuseAt, Threads};
 use ff_top::{Devices, ffrun};
 use std::alloc::{AllocError, Global};
@@ -20,6 +20,7 @@ mod limits;
 mod networks;
 mod operations;
 mod rejects;
+mod sweeping;
 mod texts;
 mod threads;
 
@@ -65,15 +66,18 @@ trait Host: thread::Threads + Wait + Abort + Clone + Drop + Send + 'static {}
 
 impl<R: thread::Threads + Wait + Abort + Clone + Drop + Send + 'static> Host for R {}
 
+// The input of a call, of which each read may wait.
+type Input = SlowSource<MemSource>;
+
 // The devices of a call, in memory, and a spawner of real threads.
-type Made<R> = Devices<MemFiles, MemSource, ShortSink<MemSink>, MemSink, RefuseAt<Threads<R>>>;
+type Made<R> = Devices<MemFiles, Input, ShortSink<MemSink>, MemSink, RefuseAt<Threads<R>>>;
 
 // What a call answered, and its devices behind it.
 #[derive(Drop)]
 struct Answer {
     status: u8,
     files: MemFiles,
-    input: MemSource,
+    input: Input,
     out: MemSink,
     err: MemSink,
 }
@@ -123,11 +127,11 @@ fn make_devices<R: Host>(
 {
     Ok(Devices {
         files: make_files(alloc, by)?,
-        input: MemSource::new(
+        input: SlowSource::new(MemSource::new(
             Vec::from_slice(alloc, input)?,
             by.most,
             vec![in alloc; by.fails]?,
-        ),
+        )),
         out: ShortSink::new(MemSink::new(alloc, by.out, Vec::new(alloc))?, by.short),
         err: MemSink::new(alloc, by.err, vec![in alloc; 2]?)?,
         spawner,

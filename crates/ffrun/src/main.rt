@@ -26,7 +26,7 @@ fn main(rt: HostRuntime) -> ExitCode {
     };
     let mut devices = Devices {
         files: HostFiles::new(alloc, &rt, rt.stderr()),
-        input: StdinSource::new(rt.stdin()),
+        input: StdinSource::new(&rt, rt.stdin()),
         out: StdoutSink::new(rt.stdout()),
         err,
         spawner: Threads::new(threads),

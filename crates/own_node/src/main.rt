@@ -26,7 +26,7 @@ fn main(rt: HostRuntime) -> ExitCode {
     let Ok(checked) = own_network(alloc) else {
         return ExitCode::from(2);
     };
-    let mut source = StdinSource::new(rt.stdin());
+    let mut source = StdinSource::new(&rt, rt.stdin());
     let mut sink = StdoutSink::new(rt.stdout());
     let mut spawner = Threads::new(threads);
     let answer = widest_line(&rt, alloc, &checked, &mut source, &mut sink, &mut spawner);

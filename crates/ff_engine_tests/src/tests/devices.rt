@@ -1,6 +1,6 @@
 // Runs by threads with devices in memory, and what is seen of them.
 use ff_engine::{Delivery, NetFault, NetJob, NetUnit, run_net};
-use ff_io::{MemSink, MemSource, Sink, Source};
+use ff_io::{MemSink, MemSource, Sink, SlowSource, Source};
 use ff_net::{Checked, Net, Version, check};
 use ff_node::Node;
 use ff_spawn::{RefuseAt, Spawner, Threads};
@@ -59,10 +59,19 @@ pub fn checked<N: Node>(net: Net<N>) -> Result<Checked<N>, Fail> {
     }
 }
 
-/// A source whose reads give two bytes, but for the one that fails.
-pub fn source_of(alloc: Global, input: &[u8], fails: u64) -> Result<MemSource, Fail> {
+/// A source in memory that may wait before each read.
+pub type Slow = SlowSource<MemSource>;
+
+/// A slow source whose reads give at most so many bytes, but for the one that fails.
+pub fn pieces_of(alloc: Global, input: &[u8], most: usize, fails: u64) -> Result<Slow, Fail> {
     let bytes = Vec::from_slice(alloc, input)?;
-    Ok(MemSource::new(bytes, 2, vec![in alloc; fails]?))
+    let inner = MemSource::new(bytes, most.max(1), vec![in alloc; fails]?);
+    Ok(SlowSource::new(inner))
+}
+
+/// A slow source whose reads give two bytes, but for the one that fails.
+pub fn source_of(alloc: Global, input: &[u8], fails: u64) -> Result<Slow, Fail> {
+    pieces_of(alloc, input, 2, fails)
 }
 
 /// A sink that takes so many bytes in all.
@@ -155,7 +164,7 @@ pub fn compare<R: Host>(
 }
 
 // The first read gives two bytes.
-fn expect_unread(rt: &impl Abort, source: &mut MemSource) {
+fn expect_unread(rt: &impl Abort, source: &mut Slow) {
     let mut buf = [0; 4];
     assert_eq!(rt; source.read(&mut buf), Ok(2));
 }

@@ -87,13 +87,12 @@ fn run_two<R: Host>(
     rt: &R,
     alloc: Global,
     net: &Checked<Meets>,
-    limit: u64,
+    (ring, limit): (Ring, u64),
     sink: &mut MemSink,
     spawner: &mut Threads<R>,
 ) -> Result<Result<Ending, NetFault>, Fail> {
     let input = Vec::from_slice(alloc, b"1\n2\n")?;
     let mut source = MemSource::new(input, 64, Vec::new(alloc));
-    let ring = (512, Delivery::Prompt);
     Ok(run(rt, alloc, net, ring, limit, &mut source, sink, spawner))
 }
 
@@ -105,11 +104,16 @@ fn line(alloc: Global, flags: &Arc<Flags>) -> Result<Net<Meets>, Fail> {
     Ok(Net::Pipe(parts))
 }
 
-fn check_line<R: Host>(rt: &R, alloc: Global, net: &Checked<Meets>) -> Result<(), Fail> {
+fn check_line<R: Host>(
+    rt: &R,
+    alloc: Global,
+    net: &Checked<Meets>,
+    ring: Ring,
+) -> Result<(), Fail> {
     let mut sink = sink_of(alloc, 99)?;
     let mut spawner = Threads::new(rt.clone()?);
-    let answer = run_two(rt, alloc, net, 1, &mut sink, &mut spawner)?;
-    expect_answer(rt, (b"1\n2\n", 512), answer, DONE, 0);
+    let answer = run_two(rt, alloc, net, (ring, 1), &mut sink, &mut spawner)?;
+    expect_answer(rt, (b"1\n2\n", ring.0), answer, DONE, 0);
     expect_taken(rt, &sink, b"1\n2\n");
     // Two units, two records and an end for each unit.
     assert_eq!(rt; (spawner.starts(), spawner.worked()), (2, 6));
@@ -121,12 +125,27 @@ fn expect_both_met(rt: &impl Abort, flags: &Flags) {
     assert!(rt; flags.second_met.load());
 }
 
+// Over such rings each record goes on before the next one is begun.
+const AT_ONCE: [Ring; 4] = [
+    (1, Delivery::Prompt),
+    (1, Delivery::Gathered),
+    (512, Delivery::Prompt),
+    (4096, Delivery::Prompt),
+];
+
+fn check_line_meets<R: Host>(rt: &R, alloc: Global, ring: Ring) -> Result<(), Fail> {
+    let flags = Arc::new(alloc, Flags::new())?;
+    let net = checked(line(alloc, &flags)?)?;
+    check_line(rt, alloc, &net, ring)?;
+    expect_both_met(rt, &flags);
+    Ok(())
+}
+
 #[test]
 fn meet_line(rt: HostRuntime) -> Result<(), Fail> {
-    let flags = Arc::new(rt.alloc(), Flags::new())?;
-    let net = checked(line(rt.alloc(), &flags)?)?;
-    check_line(&rt, rt.alloc(), &net)?;
-    expect_both_met(&rt, &flags);
+    for ring in AT_ONCE {
+        check_line_meets(&rt, rt.alloc(), ring)?;
+    }
     Ok(())
 }
 
@@ -176,12 +195,12 @@ fn check_copies<R: Host>(
     rt: &R,
     alloc: Global,
     net: &Checked<Meets>,
-    form: u32,
-    units: u64,
+    ring: Ring,
+    (form, units): (u32, u64),
 ) -> Result<(), Fail> {
     let mut sink = sink_of(alloc, 99)?;
     let mut spawner = Threads::new(rt.clone()?);
-    let answer = run_two(rt, alloc, net, 1000, &mut sink, &mut spawner)?;
+    let answer = run_two(rt, alloc, net, (ring, 1000), &mut sink, &mut spawner)?;
     expect_answer(rt, (b"1\n2\n", form), answer, DONE, 0);
     expect_records(rt, sink.taken(), form);
     assert_eq!(rt; spawner.starts(), units, "{form}");
@@ -189,18 +208,34 @@ fn check_copies<R: Host>(
 }
 
 // Two copies of a node meet, of which one waits for the other.
-fn check_meeting<R: Host>(rt: &R, alloc: Global, form: u32, units: u64) -> Result<(), Fail> {
+fn check_meeting<R: Host>(
+    rt: &R,
+    alloc: Global,
+    ring: Ring,
+    (form, units): (u32, u64),
+) -> Result<(), Fail> {
     let flags = Arc::new(alloc, Flags::new())?;
     let net = checked(copies(alloc, &flags, form)?)?;
-    check_copies(rt, alloc, &net, form, units)?;
-    assert!(rt; flags.first_met.load(), "{form}");
+    check_copies(rt, alloc, &net, ring, (form, units))?;
+    assert!(rt; flags.first_met.load(), "{form} over {ring:?}");
     Ok(())
 }
 
+// Each form, and its units.
+const FORMS: [(u32, u64); 4] = [(0, 4), (1, 4), (2, 3), (3, 8)];
+
+fn check_forms<R: Host>(rt: &R, alloc: Global, ring: Ring) -> Result<(), Fail> {
+    for form in FORMS {
+        check_meeting(rt, alloc, ring, form)?;
+    }
+    Ok(())
+}
+
+// Copies meet however records are handed over, as `ffrun` does it too: in full bundles.
 #[test]
 fn meet_copies(rt: HostRuntime) -> Result<(), Fail> {
-    for (form, units) in [(0, 4), (1, 4), (2, 3), (3, 8)] {
-        check_meeting(&rt, rt.alloc(), form, units)?;
+    for ring in RINGS {
+        check_forms(&rt, rt.alloc(), ring)?;
     }
     Ok(())
 }

@@ -4,10 +4,12 @@ ghost use Rattle.std.specs.Io.KnownBytes.{ReadConsumes, WriteAppends};
 ghost use Rattle.ff_io.specs.Bytes.{is_end};
 ghost use Rattle.ff_io.specs.Faults.{HasCause, count_after};
 
-use super::devices::{DONE, Host, RINGS, Ring, checked, expect_answer, run, sink_of, source_of};
+use super::devices::{
+    DONE, Host, RINGS, Ring, Slow, checked, expect_answer, pieces_of, run, sink_of,
+};
 use super::runs::gates;
 use crossbeam_utils::atomic::AtomicCell;
-use ff_io::{Failed, MemSink, MemSource, Sink, Source};
+use ff_io::{Failed, MemSink, Sink, Source};
 use ff_net::Checked;
 use ff_spawn::Threads;
 use ff_test_nodes::Gate;
@@ -34,6 +36,9 @@ impl<K: Sink> Sink for Telling<K> {
         Ok(count)
     }
 }
+
+// The bytes of a line before its newline, how often it is given, the most bytes of a read, and how many reads there are.
+type Reads = (usize, usize, usize, u64);
 
 // A source that counts its reads, and those at which not all that it gave had been taken by the sink.
 #[derive(Drop)]
@@ -63,10 +68,17 @@ impl<S: Source> Source for Noting<S> {
     }
 }
 
-// A source of eight lines, of which a read gives one.
-fn noting_source(alloc: Global, taken: Arc<AtomicCell<usize>>) -> Result<Noting<MemSource>, Fail> {
+// A source that gives a line so often, and at most so many bytes a read.
+fn noting_source(
+    alloc: Global,
+    (width, times, most, _): Reads,
+    taken: Arc<AtomicCell<usize>>,
+) -> Result<Noting<Slow>, Fail> {
+    let mut line = b"1".as_slice().repeat(alloc, width)?;
+    line.push(b'\n')?;
+    let input = line.as_slice().repeat(alloc, times)?;
     Ok(Noting {
-        inner: source_of(alloc, b"1\n2\n3\n4\n5\n6\n7\n8\n", 0)?,
+        inner: pieces_of(alloc, &input, most, 0)?,
         taken,
         given: 0,
         reads: 0,
@@ -74,22 +86,28 @@ fn noting_source(alloc: Global, taken: Arc<AtomicCell<usize>>) -> Result<Noting<
     })
 }
 
-fn telling_sink(alloc: Global, taken: Arc<AtomicCell<usize>>) -> Result<Telling<MemSink>, Fail> {
+fn telling_sink(
+    alloc: Global,
+    budget: usize,
+    taken: Arc<AtomicCell<usize>>,
+) -> Result<Telling<MemSink>, Fail> {
     Ok(Telling {
-        inner: sink_of(alloc, 99)?,
+        inner: sink_of(alloc, budget)?,
         taken,
     })
 }
 
-// All eight lines and the end were read, each when what came before had been taken.
-fn expect_none_late(rt: &impl Abort, source: &Noting<MemSource>, cap: u32) {
-    assert_eq!(rt; (source.reads, source.late), (9, 0), "at {cap}");
-}
-
-fn check_slow<R: Host>(rt: &R, alloc: Global, net: &Checked<Gate>, ring: Ring) -> Result<(), Fail> {
+// Each read comes when what came before had been taken.
+fn check_slow<R: Host>(
+    rt: &R,
+    alloc: Global,
+    net: &Checked<Gate>,
+    ring: Ring,
+    reads: Reads,
+) -> Result<(), Fail> {
     let taken = Arc::new(alloc, AtomicCell::new(0))?;
-    let mut source = noting_source(alloc, Arc::try_clone(&taken)?)?;
-    let mut sink = telling_sink(alloc, taken)?;
+    let mut source = noting_source(alloc, reads, Arc::try_clone(&taken)?)?;
+    let mut sink = telling_sink(alloc, 999_999, taken)?;
     let mut spawner = Threads::new(rt.clone()?);
     let answer = run(
         rt,
@@ -102,16 +120,17 @@ fn check_slow<R: Host>(rt: &R, alloc: Global, net: &Checked<Gate>, ring: Ring) -
         &mut spawner,
     );
     expect_answer(rt, (b"", ring.0), answer, DONE, 0);
-    expect_none_late(rt, &source, ring.0);
+    assert_eq!(rt; (source.reads, source.late), (reads.3, 0), "at {}", ring.0);
     Ok(())
 }
 
-// A line a read, through four threads that send on what they get.
+// Through four threads that send on what they get: a line a read, and reads that fill all the room that there is.
 #[test]
 fn results_are_shown_before_the_next_read(rt: HostRuntime) -> Result<(), Fail> {
     let net = checked(gates(rt.alloc())?)?;
     for ring in RINGS {
-        check_slow(&rt, rt.alloc(), &net, ring)?;
+        check_slow(&rt, rt.alloc(), &net, ring, (1, 8, 2, 9))?;
+        check_slow(&rt, rt.alloc(), &net, ring, (1023, 128, 65_536, 3))?;
     }
     Ok(())
 }

@@ -57,6 +57,7 @@ const ON_ONE_THREAD: &str = r#"
 run --one 'pipe(add 1 1, id)' | 1\n | 0 | 2\n |
 run --one 'farm 2 rr (add 1 1)' | 1\n2\n | 0 | 2\n3\n |
 run --one 'pipe(wrap 1 (id) if 1 > 1, id)' | 1\n | 0 | 1\n |
+run --sweep 'farm 2 rr (add 1 1)' | 1\n2\n | 0 | 2\n3\n |
 check 'pipe(id, id)' |  | 0 | pipe(id, id)\n |
 "#;
 
@@ -71,8 +72,8 @@ fn rings_of_each_size(rt: HostRuntime) -> Result<(), Fail> {
     Ok(())
 }
 
-// Makes the calls of a table with these first words, and compares.
-fn check_lines<R: Host>(
+/// Makes the calls of a table with these first words, and compares.
+pub fn check_lines<R: Host>(
     rt: &R,
     alloc: Global,
     table: &str,

@@ -8,4 +8,5 @@ returns g c = record {
   good = c.checked_networks_are_good.ensures.good;
   whole_runs = c.whole_runs.ensures;
   cut_runs = c.cut_runs.ensures;
+  log_laws = c.each_task_is_done_once.ensures;
 }

@@ -1,12 +1,14 @@
 -- Each edge has a ring: the caller takes his ends, and each job its own.
-use Rattle.std.proofs.Common.{◌∷◌, [], None, length, flat_map, sym, ap, ◌∙◌, subst}
+use Rattle.std.proofs.Common.{◌≡◌, ◌+◌, ◌∷◌, [], None, length, flat_map, sym, ap, ◌∙◌, subst, arith}
 use Rattle.std.proofs.lemmas.List.{length-set}
 use Rattle.ff_plan.specs.Rows.{Row}
 use Rattle.ff_ring.specs.Ends.{written_ring}
 use Rattle.ff_engine.specs.Boards.{AreFresh, AreNamed}
 use Rattle.ff_engine.specs.Lines.{read_edges, written_edges}
-use Rattle.ff_engine.specs.Slots.{Holds, emptied}
-use Rattle.ff_engine.proofs.BoardLaws.{AreFresh-emptied, AreFresh-rings, AreNamed-emptied, AreNamed-rings, Holds-ins, Holds-outs, length-both, name_in}
+use Rattle.ff_engine.specs.RingSizes.{size_of}
+use Rattle.ff_engine.specs.Slots.{EachKept, Holds, emptied}
+use Rattle.ff_engine.proofs.SlotLaws.{EachKept-emptied}
+use Rattle.ff_engine.proofs.BoardLaws.{AreFresh-emptied, AreFresh-rings, AreNamed-emptied, AreNamed-rings, Holds-ins, Holds-outs, length-both, name_in, sizes-rings}
 use Rattle.ff_engine.proofs.linking.link_units.Goals as goal
 
 pub take_outer-first-requires-clause-first : goal.take_outer-first-requires-clause-first
@@ -52,6 +54,21 @@ returns-clause-linked g c =
           (subst (λ s. AreNamed name (emptied (1 ∷ []) b.ins.items) s) (sym outer.ensures.outs)
           (AreNamed-emptied b.ins.items b.outs.items name (1 ∷ []) (0 ∷ []) named)));
     }
+
+pub returns-clause-sizes : goal.returns-clause-sizes
+returns-clause-sizes g c = λ size are.
+    let b = c.in_ok-board.board in
+    let kept : EachKept (λ e out. size_of out ≡ size e) b.outs.items =
+    λ e out is.
+    let from_first : 0 + e ≡ e = omega arith in
+    sizes-rings c.args.delivery c.deref.result.now c.args.edges.now b.outs.items c.in_ok-board.ensures.caps size 0 are e out is ∙ ap size from_first in
+    c.in_ok-jobs.ensures.sizes size
+    (subst (λ s. EachKept (λ e out. size_of out ≡ size e) s) (sym c.take_outer-first.ensures.outs) (EachKept-emptied (λ e out. size_of out ≡ size e) (0 ∷ []) b.outs.items kept))
+
+pub returns-clause-first : goal.returns-clause-first
+returns-clause-first g c = λ size are.
+    let b = c.in_ok-board.board in
+    sizes-rings c.args.delivery c.deref.result.now c.args.edges.now b.outs.items c.in_ok-board.ensures.caps size 0 are 0 c.take_outer-first.result.0 c.take_outer-first.ensures.first
 
 pub returns-clause-put : goal.returns-clause-put
 returns-clause-put g c =

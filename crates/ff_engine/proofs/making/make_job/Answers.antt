@@ -2,7 +2,7 @@
 use Rattle.std.proofs.Common.{map, sym, ap, ◌∙◌, subst}
 use Rattle.ff_engine.specs.Jobs.{JobState, IsOpened}
 use Rattle.ff_engine.specs.Slots.{taken_out}
-use Rattle.ff_engine.proofs.BoardLaws.{IsFresh-made, gots-taken, puts-taken, reads-taken, rooms-taken, writes-taken}
+use Rattle.ff_engine.proofs.BoardLaws.{IsFresh-made, gots-taken, puts-taken, reads-taken, rooms-taken, sizes-taken, writes-taken}
 use Rattle.ff_engine.proofs.making.make_job.Goals as goal
 
 pub new-requires-clause-gots : goal.new-requires-clause-gots
@@ -17,7 +17,7 @@ new-requires-clause-puts g c =
 
 pub returns-clause-fresh : goal.returns-clause-fresh
 returns-clause-fresh g c =
-    IsFresh-made g.U.Unit.does _ c.args.unit c.new.result _ _ _
+    IsFresh-made g.U.Unit.does _ c.args.unit c.new.result _ _ _ _
     (subst (λ row. IsOpened g.U.Unit.does row c.args.unit) (sym c.row.view_is) c.requires.opened) c.new.ensures
     (rooms-taken c.row.inside.outs c.args.board.now.outs.items c.in_ok-outs.outs.items
     (c.in_ok-outs.ensures.ends ∙ ap (λ ks. taken_out ks c.args.board.now.outs.items) c.as_slice-2.ensures) c.requires.fresh.room)
@@ -33,3 +33,10 @@ returns-clause-ends g c = λ name named. record {
       (c.in_ok-outs.ensures.ends ∙ ap (λ ks. taken_out ks c.args.board.now.outs.items) c.as_slice-2.ensures) name named.writes
       ∙ ap (λ (j : JobState g.row.U.Denot). map name j.row.outs) (sym c.new.ensures);
 }
+
+pub returns-clause-sizes : goal.returns-clause-sizes
+returns-clause-sizes g c = λ size sized.
+    ap (λ j. j.sizes) c.new.ensures
+    ∙ sizes-taken c.row.inside.outs c.args.board.now.outs.items c.in_ok-outs.outs.items
+    (c.in_ok-outs.ensures.ends ∙ ap (λ ks. taken_out ks c.args.board.now.outs.items) c.as_slice-2.ensures) size sized
+    ∙ ap (λ (j : JobState g.row.U.Denot). map size j.row.outs) (sym c.new.ensures)

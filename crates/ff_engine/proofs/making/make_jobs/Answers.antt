@@ -11,9 +11,10 @@ use Rattle.ff_plan.specs.Rows.{Row}
 use Rattle.ff_engine.specs.Boards.{AreFresh, AreNamed}
 use Rattle.ff_engine.specs.Jobs.{IsFresh, IsOpened}
 use Rattle.ff_engine.specs.Lines.{HasEnds}
-use Rattle.ff_engine.specs.Slots.{Holds, emptied}
+use Rattle.ff_engine.specs.RingSizes.{size_of}
+use Rattle.ff_engine.specs.Slots.{EachKept, Holds, emptied}
 use Rattle.ff_engine.proofs.BoardLaws.{AreFresh-emptied, AreNamed-emptied}
-use Rattle.ff_engine.proofs.SlotLaws.{Holds-append, length-emptied}
+use Rattle.ff_engine.proofs.SlotLaws.{EachKept-emptied, Holds-append, length-emptied}
 use Rattle.ff_engine.proofs.making.make_jobs.Goals as goal
 
 -- there is a row for each unit
@@ -73,6 +74,7 @@ loop-unit-preserved g c =
           (subst (λ s. AreFresh (emptied row.ins ins) s) (sym made.outs) (AreFresh-emptied ins outs row.ins row.outs before.fresh));
       named = λ name named. subst (λ s. AreNamed name s c.make_job.new.board.outs.items) (sym made.ins)
           (subst (λ s. AreNamed name (emptied row.ins ins) s) (sym made.outs) (AreNamed-emptied ins outs name row.ins row.outs (before.named name named)));
+      sized = λ size each. subst (λ s. EachKept (λ e out. size_of out ≡ size e) s) (sym made.outs) (EachKept-emptied (λ e out. size_of out ≡ size e) row.outs outs (before.sized size each));
       units = ap (map (λ j. j.unit)) pushed ∙ map-append (λ j. j.unit) jobs (job ∷ [])
           ∙ ap (λ us. us ++ job.unit ∷ []) before.units ∙ ap (λ u. c.loop-unit.yielded ++ u ∷ []) made.unit;
       rows = ap (λ js. map (λ j. j.row) js ++ rows) pushed ∙ ap (λ l. l ++ rows) (map-append (λ j. j.row) jobs (job ∷ []))
@@ -80,6 +82,7 @@ loop-unit-preserved g c =
           ∙ ap (λ (l : List Row). map (λ j. j.row) jobs ++ l) (sym next) ∙ before.rows;
       jobs = rw pushed (All-push (λ j. IsFresh g.U.Unit.does j) jobs job before.jobs made.fresh);
       ends = λ name named. rw pushed (All-push (λ j. HasEnds name j) jobs job (before.ends name named) (made.ends name (before.named name named)));
+      sizes = λ size each. rw pushed (All-push (λ j. j.sizes ≡ map size j.row.outs) jobs job (before.sizes size each) (made.sizes size (before.sized size each)));
       places = ap length made.ins ∙ length-emptied row.ins ins ∙ before.places;
       out_places = ap length made.outs ∙ length-emptied row.outs outs ∙ before.out_places;
     }

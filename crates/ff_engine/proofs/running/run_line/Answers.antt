@@ -5,7 +5,7 @@ use Rattle.ff_stream.specs.Streams.{streams}
 use Rattle.ff_stream.specs.declared.fault.Halt.TheVariants.{NoMemory}
 use Rattle.ff_stream.proofs.Endings.{Ran-broken, Ran-ended, Ran-given_up, Told-ended}
 use Rattle.ff_stream.proofs.Goings.{IsOpen-left}
-use Rattle.ff_engine.specs.Networks.{HasFed, HasStopped, WorkedThrough}
+use Rattle.ff_engine.specs.Networks.{HasDoneTasks, HasFed, HasStopped, WorkedThrough}
 use Rattle.ff_engine.specs.Seen.{caller_of}
 use Rattle.ff_engine.proofs.LineEnds.{HasStopped-fed}
 use Rattle.ff_engine.proofs.running.run_line.Goals as goal
@@ -37,6 +37,16 @@ returns-in-Ok-finish-clause-work g c =
     (λ xs. WorkedThrough j xs (g.S.Refusals.worked c.args.spawner.now) (g.S.Refusals.worked c.finish.new.by))
     (c.in-Ok-finish.ensures.ends j (records_of j s taken.got) taken.front taken.stands_so)
     (c.in-Ok-finish.ensures.work j (records_of j s taken.got) taken.front taken.stands_so)
+
+pub returns-in-Ok-finish-clause-tasks : goal.returns-in-Ok-finish-clause-tasks
+returns-in-Ok-finish-clause-tasks g c =
+    let s = streams g.I.Source.left g.I.Source.ended g.I.Source.faults g.O.Sink.taken c.args.source.now c.take_stream.new.source c.args.sink.now c.take_stream.new.sink in
+    λ j is fed.
+    let taken = c.in-Ok.ensures.ok j is fed in
+    Told-ended (λ j l xs front. HasFed g.N.Node.does j (caller_of l.caller) l.crew xs front) j c.take_stream.new.work c.in-Ok.stop s taken _ c.in-Ok-finish.report
+    (λ xs. HasDoneTasks g.N.Node.does j xs)
+    (c.in-Ok-finish.ensures.ends j (records_of j s taken.got) taken.front taken.stands_so)
+    (c.in-Ok-finish.ensures.tasks j (records_of j s taken.got) taken.front taken.stands_so)
 
 pub returns-in-Err-finish-clause-run : goal.returns-in-Err-finish-clause-run
 returns-in-Err-finish-clause-run g c =

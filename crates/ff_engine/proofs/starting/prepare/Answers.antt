@@ -1,7 +1,7 @@
 -- Each unit is opened, and the plan is wired.
 use denote.Param.Send.{sendable}
 use Rattle.std.proofs.Crossing.{crosses}
-use Rattle.std.proofs.Common.{◌≡◌, ◌≤◌, ◌∙◌, length, sym, ap, subst, arith}
+use Rattle.std.proofs.Common.{◌≡◌, ◌≤◌, ◌∙◌, length, map, sym, ap, subst, arith}
 use Rattle.std.proofs.lemmas.List.{length-map}
 use Rattle.std.specs.List.{All, AllZip}
 use Rattle.ff_net.specs.Counts.{edges}
@@ -16,8 +16,9 @@ use Rattle.ff_engine.specs.Callers.{CallerState}
 use Rattle.ff_engine.specs.Jobs.{JobState, IsOpened}
 use Rattle.ff_engine.specs.Lines.{IsWired, Linked}
 use Rattle.ff_engine.specs.Networks.{UnitOf}
+use Rattle.ff_engine.specs.RingSizes.{size_for, size_of, plan_size}
 use Rattle.ff_engine.proofs.Opened.{IsOpened-units}
-use Rattle.ff_engine.proofs.PlanEdges.{high-caps, length-edges, low-caps}
+use Rattle.ff_engine.proofs.PlanEdges.{high-caps, length-edges, low-caps, sizes-edges}
 use Rattle.ff_engine.proofs.UnitSent.{IsSend-unit}
 use Rattle.ff_engine.proofs.starting.prepare.Goals as goal
 
@@ -64,12 +65,17 @@ returns g c =
     let rows : c.into_parts-rows.result.0.items ≡ rows_of t = c.into_parts-rows.ensures.units ∙ ap (λ (p : Plan). p.units) c.in_ok-plan.ensures in
     let many : length c.deref.result.now ≡ edges t =
     ap length (c.deref.ensures.value ∙ c.into_parts-rows.ensures.edges ∙ ap (λ (p : Plan). p.edges) c.in_ok-plan.ensures) ∙ length-edges (rows_of t) c.args.cap Ring (edges t) in
+    let sizes : map (λ (edge : Edge). size_for edge.cap) c.deref.result.now ≡ map (plan_size t c.args.cap) (range 0 (length c.deref.result.now)) =
+    ap (map (λ (edge : Edge). size_for edge.cap)) (c.deref.ensures.value ∙ c.into_parts-rows.ensures.edges ∙ ap (λ (p : Plan). p.edges) c.in_ok-plan.ensures)
+    ∙ sizes-edges (rows_of t) c.args.cap Ring (edges t) ∙ ap (λ k. map (plan_size t c.args.cap) (range 0 k)) (sym many) in
     let number : length jobs ≡ length c.in_ok-units.units.items = sym (length-map jobs (λ job. job.unit)) ∙ ap length made.units in record {
-      put = ap (λ (s : CallerState). s.put) c.new-3.ensures ∙ made.put;
-      got = ap (λ (s : CallerState). s.got) c.new-3.ensures ∙ made.got;
-      text = ap (λ (s : CallerState). s.text) c.new-3.ensures;
-      holds = ap (λ (s : CallerState). s.holds) c.new-3.ensures ∙ c.has_wrap.ensures;
-      linked = subst (λ (s : CallerState). Linked s.writes jobs s.reads) (sym c.new-3.ensures) made.linked;
+      put = ap (λ (s : CallerState). s.put) c.new-3.ensures.seen ∙ made.put;
+      got = ap (λ (s : CallerState). s.got) c.new-3.ensures.seen ∙ made.got;
+      text = ap (λ (s : CallerState). s.text) c.new-3.ensures.seen;
+      holds = ap (λ (s : CallerState). s.holds) c.new-3.ensures.seen ∙ c.has_wrap.ensures;
+      first_is = ap size_of c.new-3.ensures.first ∙ made.first (plan_size t c.args.cap) sizes;
+      sizes = made.sizes (plan_size t c.args.cap) sizes;
+      linked = subst (λ (s : CallerState). Linked s.writes jobs s.reads) (sym c.new-3.ensures.seen) made.linked;
       units_are = made.units ∙ c.in_ok-units.ensures.units;
       rows_are = made.rows ∙ rows;
       wired = subst (λ rs. IsWired rs (length c.in_ok-network.network.board.ins.items)) (sym (made.rows ∙ rows))

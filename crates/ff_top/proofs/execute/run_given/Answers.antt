@@ -13,20 +13,26 @@ returns-in-Ok-run-clause-handled g c =
     inr (record {
       net = t;
       spelled = c.in-Ok.ensures.ok;
-      done = Ran-early (run_job t c.args.order.tasks c.args.order.rejects) (by_threads c.args.order.one) c.args.order.rejects _ _ (g.F.Files.told mid) (g.F.Files.faults mid) c.in-Ok.ensures.keeps
-          (Ok c.in-Ok-run.rejected) c.in-Ok-run.ensures.ran;
+      done = (
+        c.in-Ok-run.ensures.allowed,
+        Ran-early (run_job t c.args.order.tasks c.args.order.rejects) (by_threads c.args.order.way) c.args.order.rejects _ _ (g.F.Files.told mid) (g.F.Files.faults mid) c.in-Ok.ensures.keeps
+            (Ok c.in-Ok-run.rejected) c.in-Ok-run.ensures.ran,
+      );
     })
 
-pub returns-in-Ok-clause-handled : goal.returns-in-Ok-clause-handled
-returns-in-Ok-clause-handled g c =
+pub returns-in-Err-run-clause-handled : goal.returns-in-Err-run-clause-handled
+returns-in-Err-run-clause-handled g c =
     let mid = c.read_given.new.files in
     let t = tree_of c.in-Ok.checked.net in
     inr (record {
       net = t;
       spelled = c.in-Ok.ensures.ok;
-      done = Ran-early (run_job t c.args.order.tasks c.args.order.rejects) (by_threads c.args.order.one) c.args.order.rejects _ _ (g.F.Files.told mid) (g.F.Files.faults mid) c.in-Ok.ensures.keeps
-          (Err c.in-Err-run.cause) c.in-Err-run.ensures.ran;
+      done = (
+        c.in-Err-run.ensures.allowed,
+        Ran-early (run_job t c.args.order.tasks c.args.order.rejects) (by_threads c.args.order.way) c.args.order.rejects _ _ (g.F.Files.told mid) (g.F.Files.faults mid) c.in-Ok.ensures.keeps
+            (Err c.in-Err-run.cause) c.in-Err-run.ensures.ran,
+      );
     })
 
-pub returns-in-Ok-clause-input : goal.returns-in-Ok-clause-input
-returns-in-Ok-clause-input g c none = ReadsNone-refused c.in-Err-run.cause none c.in-Err-run.ensures.unread
+pub returns-in-Err-run-clause-input : goal.returns-in-Err-run-clause-input
+returns-in-Err-run-clause-input g c none = ReadsNone-refused c.in-Err-run.cause none c.in-Err-run.ensures.unread

@@ -1,5 +1,6 @@
 -- The command is given a network.
 use Rattle.std.proofs.Common.{sym, ap, subst, inl, inr, ◌∙◌}
+use Rattle.std.proofs.lemmas.Bool.{not-true}
 use Rattle.ff_top.proofs.Executed.{ReadsNone-run}
 use Rattle.ff_top.specs.Commands.{DoneWith, given_to, reads_input, works_alone}
 use Rattle.ff_top.specs.Outside.{outside_of}
@@ -56,7 +57,7 @@ returns-in-Run-clause-input g c none = ReadsNone-run c.args.job c.run_given.resu
 
 -- a run works alone where the words say so, and a soak never does
 pub returns-in-Run-clause-alone : goal.returns-in-Run-clause-alone
-returns-in-Run-clause-alone g c alone = c.run_given.ensures.alone (sym (ap works_alone c.in-Run.is) ∙ alone)
+returns-in-Run-clause-alone g c alone = c.run_given.ensures.alone (not-true _ (sym (ap works_alone c.in-Run.is) ∙ alone))
 
 pub returns-in-Soak-clause-alone : goal.returns-in-Soak-clause-alone
 returns-in-Soak-clause-alone g c alone = let e = sym (ap works_alone c.in-Soak.is) ∙ alone in absurd (cc)

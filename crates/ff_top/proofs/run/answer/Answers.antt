@@ -1,22 +1,21 @@
 -- The network ran by threads.
 use Rattle.std.proofs.Common.{ap}
-use Rattle.std.specs.Prelude.{not}
 use Rattle.ff_net.specs.Tree.{tree_of}
 use Rattle.ff_top.proofs.Answering.{Answered-job, Answered-threads}
 use Rattle.ff_top.specs.Outside.{outside_of}
 use Rattle.ff_top.specs.Running.{by_threads}
 use Rattle.ff_top.proofs.run.answer.Goals as goal
 
-pub returns-clause-ran : goal.returns-clause-ran
-returns-clause-ran g c =
+pub returns-in-Threads-clause-ran : goal.returns-in-Threads-clause-ran
+returns-in-Threads-clause-ran g c =
     let r = c.run_net in
     let seen = outside_of g.F.Files.told g.F.Files.faults g.I.Source.left g.I.Source.ended g.I.Source.faults g.O.Sink.taken g.O.Sink.faults g.S.Refusals.refused g.S.Refusals.starts g.S.Refusals.worked in
     let before = seen c.args.devices.now.files c.args.devices.now.input c.args.devices.now.out c.args.devices.now.spawner in
     let now = seen c.args.devices.now.files r.new.source r.new.sink r.new.spawner in
-    let t = tree_of c.args.checked.now.net in
-    let v = c.args.checked.now.version in
+    let t = tree_of c.args.checked.net in
+    let v = c.args.checked.version in
     let keep = c.is_some-keep.result in
     let tasks = c.args.order.now.tasks in
-    let threads = by_threads c.args.order.now.one in
-    Answered-job t v keep tasks c.args.order.now.rejects threads before now r.result c.requires c.is_some-keep.ensures
-    (Answered-threads t v keep tasks threads before now r.result r.ensures.run r.ensures.work r.ensures.starts (ap not c.if-order.false))
+    let threads = by_threads c.args.order.now.way in
+    Answered-job t v keep tasks c.args.order.now.rejects threads before now r.result c.requires.version c.is_some-keep.ensures
+    (Answered-threads t v keep tasks threads before now r.result r.ensures.run r.ensures.work r.ensures.starts (ap by_threads c.in-Threads.is))

@@ -1,11 +1,12 @@
 -- The network ran, and the run was finished.
-use Rattle.std.proofs.Common.{◌≡◌, subst, ◌∙◌}
+use Rattle.std.proofs.Common.{◌≡◌, subst, inl, inr, ◌∙◌}
+use Rattle.std.proofs.lemmas.Bool.{MatchBool-at_true}
 use Rattle.ff_net.specs.Tree.{tree_of}
 use Rattle.ff_top.proofs.Answering.{Answered-files}
-use Rattle.ff_top.proofs.Finished.{Ran-finished, HasCounts-finished, Refused-finished}
+use Rattle.ff_top.proofs.Finished.{Ran-finished, HasCounts-finished, Refused-finished, IsSwept, IsSwept-finished, AllowedBy-may}
 use Rattle.ff_top.specs.Finishing.{Finished}
 use Rattle.ff_top.specs.Outside.{count_by, outside_of}
-use Rattle.ff_top.specs.Running.{by_threads, run_files, run_job}
+use Rattle.ff_top.specs.Running.{by_threads, CannotSweep, MayRun, run_files, run_job}
 use Rattle.ff_top.proofs.run.run.Goals as goal
 
 pub returns-clause-ran : goal.returns-clause-ran
@@ -16,10 +17,10 @@ returns-clause-ran g c =
     let seen = outside_of told g.F.Files.faults g.I.Source.left g.I.Source.ended g.I.Source.faults g.O.Sink.taken g.O.Sink.faults g.S.Refusals.refused g.S.Refusals.starts g.S.Refusals.worked in
     let before = seen c.args.devices.now.files c.args.devices.now.input c.args.devices.now.out c.args.devices.now.spawner in
     let now = seen c.finish.new.files b.input b.out b.spawner in
-    let t = tree_of c.args.checked.now.net in
+    let t = tree_of c.args.checked.net in
     let tasks = c.args.order.tasks in
     let rejects = c.args.order.rejects in
-    let threads = by_threads c.args.order.one in
+    let threads = by_threads c.args.order.way in
     Ran-finished t tasks threads rejects before now a.result c.finish.result
     (Answered-files (run_job t tasks rejects) threads before now (told b.files) (g.F.Files.faults b.files) a.result a.ensures.ran) a.ensures.input_faults
     (subst (λ files. Finished tasks rejects a.result (told files) (told c.finish.new.files) c.finish.result) a.ensures.files c.finish.ensures.ends)
@@ -40,6 +41,17 @@ returns-clause-counts g c =
     }
 
 pub returns-clause-unread : goal.returns-clause-unread
-returns-clause-unread g c refused =
+returns-clause-unread g c early =
     let a = c.answer-answer in
-    a.ensures.unread (Refused-finished c.args.order.tasks c.args.order.rejects a.result _ _ c.finish.result c.finish.ensures.ends refused)
+    elim early [
+      | inl refused ↦ a.ensures.unread (Refused-finished c.args.order.tasks c.args.order.rejects a.result _ _ c.finish.result c.finish.ensures.ends refused)
+      | inr unswept ↦ absurd (subst IsSwept unswept (IsSwept-finished c.args.order.tasks c.args.order.rejects a.result _ _ c.finish.result c.finish.ensures.ends))
+    ]
+
+pub returns-clause-allowed : goal.returns-clause-allowed
+returns-clause-allowed g c =
+    let way = c.args.order.way in
+    let t = tree_of c.args.checked.net in
+    AllowedBy-may way t c.finish.result
+    (IsSwept-finished c.args.order.tasks c.args.order.rejects c.answer-answer.result _ _ c.finish.result c.finish.ensures.ends)
+    (MatchBool-at_true (MayRun way t) (CannotSweep way t) c.if-not-may_run.false c.may_run.ensures)

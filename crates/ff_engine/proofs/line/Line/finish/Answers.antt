@@ -9,7 +9,7 @@ use Rattle.ff_stream.specs.Texts.{Writes, WritesSome}
 use Rattle.ff_steps.specs.NetUnits.{net_does}
 use Rattle.ff_engine.specs.Callers.{EndsWithEos}
 use Rattle.ff_engine.specs.Seen.{caller_of}
-use Rattle.ff_engine.proofs.LineEnds.{Ends-cut, Ends-reported, Ends-unreported, IsOpen-put, WorkedThrough-all, counts-concluded}
+use Rattle.ff_engine.proofs.LineEnds.{Ends-cut, Ends-reported, Ends-unreported, HasDoneTasks-all, IsOpen-put, WorkedThrough-all, counts-concluded}
 use Rattle.ff_engine.proofs.UnitSent.{IsSend-unit}
 use Rattle.ff_engine.proofs.line.Line.finish.Goals as goal
 
@@ -83,6 +83,15 @@ returns-clause-work g c =
     (c.into_parts-first.ensures.put ∙ ap (λ s. s.put) c.hand_over.ensures.same)
     (c.into_parts-first.ensures.got ∙ ap (λ s. s.got) c.hand_over.ensures.same)
     shown.result c.end-end.result c.any_over-over.result (Ok c.in_ok-report.report) c.in_ok-report.ensures shown.ensures.put
+
+pub returns-clause-tasks : goal.returns-clause-tasks
+returns-clause-tasks g c =
+    let shown = c.close-shown in
+    HasDoneTasks-all g.N.Node.does (caller_of c.args.self.caller) (caller_of shown.new.caller) c.args.self.crew
+    (put_of c.into_parts-first.result.0) c.join-units.result.items (got_of c.into_parts-first.result.1) _ _ c.join-units.ensures.joined
+    (c.into_parts-first.ensures.put ∙ ap (λ s. s.put) c.hand_over.ensures.same)
+    (c.into_parts-first.ensures.got ∙ ap (λ s. s.got) c.hand_over.ensures.same)
+    shown.result c.end-end.result c.any_over-over.result (Ok c.in_ok-report.report) c.in_ok-report.ensures c.any_over-over.ensures shown.ensures.put
 
 pub returns-clause-counts : goal.returns-clause-counts
 returns-clause-counts g c =

@@ -6,6 +6,7 @@ use Rattle.ff_ring.specs.Ends.{got_of, put_of, room_of, read_ring, written_ring}
 use Rattle.ff_ring.specs.declared.ring_in.RingIn.{RingIn}
 use Rattle.ff_ring.specs.declared.ring_out.RingOut.{RingOut}
 use Rattle.ff_engine.specs.Jobs.{JobState}
+use Rattle.ff_engine.specs.RingSizes.{size_of}
 use Rattle.ff_engine.proofs.BoardLaws.{AllEmpty-got}
 use Rattle.ff_engine.proofs.net_job.NetJob.new.Goals as goal
 
@@ -20,6 +21,7 @@ returns g c =
       gots = map (λ i. got_of i) is;
       puts = map (λ o. put_of o) os;
       rooms = map (λ o. room_of o) os;
+      sizes = map (λ o. size_of o) os;
       reads = map (λ i. read_ring i) is;
       writes = map (λ o. written_ring o) os;
     } in
@@ -29,6 +31,7 @@ returns g c =
       gots = gots;
       puts = puts;
       rooms = map (λ o. room_of o) c.args.outs.items;
+      sizes = map (λ o. size_of o) c.args.outs.items;
       reads = map (λ i. read_ring i) c.args.ins.items;
       writes = map (λ o. written_ring o) c.args.outs.items;
     } in
