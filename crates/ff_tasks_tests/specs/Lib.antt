@@ -1,0 +1,2 @@
+pub mod Broods
+pub mod BroodLaws
