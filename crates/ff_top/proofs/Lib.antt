@@ -1,10 +1,2 @@
-pub mod Saying
-pub mod PlaceTexts
-pub mod Limited
-pub mod SameText
-pub mod LongFiles
-pub mod Accepted
-pub mod Answering
-pub mod Finished
-pub mod Executed
 pub mod Calls
+pub mod Statuses

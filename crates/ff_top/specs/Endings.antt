@@ -1,39 +1,28 @@
 -- How a call ends: what each answer means, and when it may come.
-use Rattle.std.specs.Prelude.{◌≡◌, ℕ, ◌⊎◌, false, List, Option, None, Some, option_and_then, IsSomeAnd, Result, Ok, Err}
+use Rattle.std.specs.Prelude.{◌≡◌, ℕ, ◌⊎◌, List, Option, None, Some, option_and_then, Result, Err}
 use Rattle.ff_net.specs.Tree.{Tree}
 use Rattle.ff_ops.specs.Operation.{OpState}
-use Rattle.ff_top.specs.Printing.{print_output}
 use Rattle.ff_plan.specs.declared.kind.Queue.{Queue}
-use Rattle.ff_top.specs.Commands.{DoneWith, SoakDone, given_to, is_built, reads_input, IsInLimits, IsBeyond, IsUnswept}
-use Rattle.ff_top.specs.Messages.{said, status_of, Tells}
-use Rattle.ff_top.specs.Outside.{Outside, World, IsUntouched, IsQuiet}
-use Rattle.ff_top.specs.Running.{run_files, run_output, run_refused, RunInput}
-use Rattle.ff_top.specs.Soaking.{soak_output, soak_refused}
-use Rattle.ff_top.specs.Texts.{IsKnown, IsGiven, IsGivenFault, IsSpelled, KeepsRules, given_files}
-use Rattle.ff_top.specs.declared.fault.Fault.{Fault}
-use Rattle.ff_top.specs.declared.fault.Fault.TheVariants.{Words, NotBuilt, Given, Run, Print, Soak}
-use Rattle.ff_top.specs.declared.run_cause.RunCause.TheVariants as run
+use Rattle.ff_prog.specs.declared.statement.Statement.{Statement}
+use Rattle.ff_call.specs.Counts.{Counts}
+use Rattle.ff_call.specs.Messages.{said, Tells}
+use Rattle.ff_call.specs.Outside.{Outside, World, IsUntouched, IsQuiet}
+use Rattle.ff_call.specs.Statuses.{status_of}
+use Rattle.ff_call.specs.Texts.{IsKnown, IsGiven, IsSpelled, KeepsRules}
+use Rattle.ff_call.specs.declared.fault.Fault.{Fault}
+use Rattle.ff_call.specs.declared.fault.Fault.TheVariants.{Usage, NoMemory}
+use Rattle.ff_call_mdf.specs.Computing.{IsWork as IsMdfWork}
+use Rattle.ff_call_mdf.specs.Programs.{IsRead}
+use Rattle.ff_call_soak.specs.Soaking.{Soaked}
+use Rattle.ff_top.specs.Commands.{DoneWith, Works, given_to, IsInLimits, IsBeyond, IsUnswept}
 use Rattle.ff_words.specs.Words.{command}
 use Rattle.ff_words.specs.declared.command.Command.{Command}
 use Rattle.ff_words.specs.declared.command.Command.TheVariants as of
-use Rattle.ff_words.specs.declared.command.CommandFault.{CommandFault}
-use Rattle.ff_words.specs.declared.command.CommandFault.TheVariants.{Usage, NoMemory}
 use Rattle.ff_words.specs.declared.command.Given.{Given as GivenText}
 
 -- the text or file of the command that these words are
 abbrev pub description : List (List ℕ) → Option GivenText
 description words = option_and_then given_to (command words)
-
--- the words are a command, and it isn't built
-pub record IsNotBuilt (words : List (List ℕ)) : Type 0 where
-  pub job : Command
-  pub is_command : command words ≡ Some job
-  pub not_built : is_built job ≡ false
-
--- when each fault of words comes
-abbrev pub IsWordsFault : List (List ℕ) → CommandFault → Type 0
-IsWordsFault words Usage = command words ≡ None
-IsWordsFault words NoMemory = Unit {0}
 
 -- the words are a command that is given a network, and it did this with it
 pub record Did (words : List (List ℕ)) (before now : Outside) (answer : Result ℕ Fault) : Type 0 where
@@ -52,58 +41,31 @@ pub record DidSoak (words : List (List ℕ)) (before now : Outside) (answer : Re
   pub cap : ℕ
   pub queue : Queue
   pub is_command : command words ≡ Some (of.Soak records workers cap queue)
-  pub done : SoakDone records workers before now answer
+  pub done : Soaked records workers before now answer
+
+-- the words ask for the run of a program, and it was run
+pub record DidMdf (words : List (List ℕ)) (before now : Outside) (answer : Result ℕ Fault) : Type 0 where
+  pub given : GivenText
+  pub workers : ℕ
+  pub is_command : command words ≡ Some (of.Mdf given workers)
+  pub done : IsMdfWork given workers before now answer
+
+-- the words are no command, or memory ran out before they were read
+abbrev pub IsWordsFault : List (List ℕ) → Result ℕ Fault → Type 0
+IsWordsFault words (Err Usage) = command words ≡ None
+IsWordsFault words (Err NoMemory) = Unit {0}
+IsWordsFault words _ = ⊥
+
+-- the words are a command, and it did this
+pub record DidCommand (words : List (List ℕ)) (before now : Outside) (answer : Result ℕ Fault) : Type 0 where
+  pub job : Command
+  pub is_command : command words ≡ Some job
+  pub works : Works job before now answer
 
 -- when each answer of a call comes, and what was read, written and stored then
 abbrev pub Comes : List (List ℕ) → Outside → Outside → Result ℕ Fault → Type 0
-Comes words before now (Ok n) = Did words before now (Ok n) ⊎ DidSoak words before now (Ok n)
-Comes words before now (Err (Words fault)) = IsWordsFault words fault × IsUntouched before now
-Comes words before now (Err NotBuilt) = IsNotBuilt words × IsUntouched before now
-Comes words before now (Err (Given fault)) =
-    IsSomeAnd (description words) (λ given. IsGivenFault before.told given fault)
-    × IsUntouched before now
-Comes words before now (Err (Run fault)) = Did words before now (Err (Run fault))
-Comes words before now (Err (Print fault)) = Did words before now (Err (Print fault))
-Comes words before now (Err (Soak cause)) = DidSoak words before now (Err (Soak cause))
-
--- nothing is read at this answer to these words: they are no command that reads the input, or the fault comes before a run or a
--- thread is refused
-abbrev pub ReadsNone : Option Command → Result ℕ Fault → Type 0
-ReadsNone job (Ok n) = IsSomeAnd job (λ j. reads_input j ≡ false)
-ReadsNone job (Err (Run run.Refused)) = Unit {0}
-ReadsNone job (Err (Run run.NoSweep)) = Unit {0}
-ReadsNone job (Err (Run cause)) = ⊥
-ReadsNone job (Err fault) = Unit {0}
-
--- the counts of the files' and the output's faults and of refused starts after this answer: one more of what failed, and else
--- the same
-abbrev pub files_count : {A : Type 0} → ℕ → Result A Fault → ℕ
-files_count n (Err (Given fault)) = given_files n fault
-files_count n (Err (Run fault)) = run_files n fault
-files_count n _ = n
-
-abbrev pub output_count : {A : Type 0} → ℕ → Result A Fault → ℕ
-output_count n (Err (Run fault)) = run_output n fault
-output_count n (Err (Print fault)) = print_output n fault
-output_count n (Err (Soak cause)) = soak_output n cause
-output_count n _ = n
-
-abbrev pub refused_count : {A : Type 0} → ℕ → Result A Fault → ℕ
-refused_count n (Err (Run fault)) = run_refused n fault
-refused_count n (Err (Soak cause)) = soak_refused n cause
-refused_count n _ = n
-
--- how the count of the input's faults went at this answer
-abbrev pub CountsInput : {A : Type 0} → ℕ → ℕ → Result A Fault → Type 0
-CountsInput before now (Err (Run fault)) = RunInput before now fault
-CountsInput before now _ = now ≡ before
-
--- the counts of faults and of refused starts rose as this answer says
-pub record Counts (before now : Outside) (answer : Result ℕ Fault) : Type 0 where
-  pub files : now.files_faults ≡ files_count before.files_faults answer
-  pub input : CountsInput before.input_faults now.input_faults answer
-  pub output : now.output_faults ≡ output_count before.output_faults answer
-  pub starts : now.refused ≡ refused_count before.refused answer
+Comes words before now answer =
+    (IsWordsFault words answer × IsUntouched before now) ⊎ DidCommand words before now answer
 
 -- How a call ended: its answer has this status and comes as it may, the counts are as it says, and it was told.
 pub record Ended (status : ℕ) (words : List (List ℕ)) (before now : World) : Type 0 where
@@ -133,7 +95,7 @@ pub record IsRefused (words : List (List ℕ)) (before : Outside) : Type 0 where
 
 -- What is answered where no count of faults rose and no start was refused, unless memory ran out: an accepted command over an
 -- input within the limits is done, over another a limit is told, a network that is to be swept and can't be, or a text that isn't
--- accepted, is refused, and a soak is done.
+-- accepted, is refused, a program that keeps the rules is run, another text than one of such a program is refused, and a soak is done.
 pub record IsComplete (status : ℕ) (words : List (List ℕ)) (before now : Outside) : Type 0 where
   pub done : IsQuiet before now → (job : Command) (t : Tree OpState) → IsAccepted words before job t
       → IsInLimits job t before.left → (status ≡ 0) ⊎ (status ≡ 6)
@@ -142,4 +104,8 @@ pub record IsComplete (status : ℕ) (words : List (List ℕ)) (before now : Out
   pub unswept : IsQuiet before now → (job : Command) (t : Tree OpState) → IsAccepted words before job t
       → IsUnswept job t → (status ≡ 2) ⊎ (status ≡ 6)
   pub refused : IsQuiet before now → IsRefused words before → (status ≡ 2) ⊎ (status ≡ 6)
+  pub computed : IsQuiet before now → (given : GivenText) (workers : ℕ) → command words ≡ Some (of.Mdf given workers)
+      → (text : List ℕ) → IsKnown before.told given text → (program : List Statement) → IsRead text program → (status ≡ 0) ⊎ (status ≡ 6)
+  pub no_program : IsQuiet before now → (given : GivenText) (workers : ℕ) → command words ≡ Some (of.Mdf given workers)
+      → (text : List ℕ) → IsKnown before.told given text → ((program : List Statement) → IsRead text program → ⊥) → (status ≡ 2) ⊎ (status ≡ 6)
   pub soaked : IsQuiet before now → (n workers cap : ℕ) (queue : Queue) → command words ≡ Some (of.Soak n workers cap queue) → (status ≡ 0) ⊎ (status ≡ 6)

@@ -1,10 +1,2 @@
-pub mod Outside
-pub mod Texts
-pub mod Running
-pub mod Printing
-pub mod Soaking
 pub mod Commands
-pub mod Messages
 pub mod Endings
-pub mod Finishing
-pub mod Working

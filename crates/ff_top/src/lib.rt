@@ -1,23 +1,12 @@
-//! The call `ffrun`, which `main` makes: from words and bytes to bytes and a status. A command's words stand in `ff_words`.
-//! What it does stands in a file of its own here, as `run.rt`, and so do its faults with their messages, as `run_cause.rt`.
+//! The call `ffrun`, which `main` makes: from words and bytes to bytes and a status. It reads the words, hands over to the
+//! command that they are, and tells how that ended. The words stand in `ff_words`, and each command in a crate of its own.
 #![tactic(auto)]
 
-mod devices;
 mod execute;
-mod fault;
-mod gathered;
-mod given;
-mod given_fault;
-mod pieces;
-mod place;
-mod print;
-mod rejects;
-mod run;
-mod run_cause;
-mod soak;
-mod tell;
+mod starts;
 mod top;
 
-pub use devices::{Devices, Seen};
+pub use ff_call::{Devices, Kinds, Machine, Seen, WaitingMachine};
 pub use ff_words::{Command, CommandFault, Given, Text, read_command};
+pub use starts::StartsAll;
 pub use top::{ffrun, refuse_memory};

@@ -4,7 +4,7 @@ ghost use Rattle.std.specs.Prelude.{◌≤◌};
 use cases::{Case, case_of, is_call, text_of, words_of};
 use ff_io::{MemFiles, MemSink, MemSource, ShortSink, SlowSource};
 use ff_spawn::{RefuseAt, Threads};
-use ff_top::{Devices, ffrun};
+use ff_top::{Devices, Kinds, ffrun};
 use std::alloc::{AllocError, Global};
 use std::process::Abort;
 use std::sync::Wait;
@@ -19,6 +19,7 @@ mod flowing;
 mod limits;
 mod networks;
 mod operations;
+mod programs;
 mod rejects;
 mod sweeping;
 mod texts;
@@ -70,7 +71,9 @@ impl<R: thread::Threads + Wait + Abort + Clone + Drop + Send + 'static> Host for
 type Input = SlowSource<MemSource>;
 
 // The devices of a call, in memory, and a spawner of real threads.
-type Made<R> = Devices<MemFiles, Input, ShortSink<MemSink>, MemSink, RefuseAt<Threads<R>>>;
+type Made<R> = Devices<
+    Kinds<MemFiles, Input, ShortSink<MemSink>, MemSink, RefuseAt<Threads<R>>, R>,
+>;
 
 // What a call answered, and its devices behind it.
 #[derive(Drop)]

@@ -3,7 +3,7 @@
 
 use ff_io::{HostFiles, StderrSink, StdinSource, StdoutSink};
 use ff_spawn::Threads;
-use ff_top::{Devices, ffrun, refuse_memory};
+use ff_top::{Devices, Kinds, ffrun, refuse_memory};
 use std::alloc::Global;
 use std::io::ErrorKind;
 use std::process::ExitCode;
@@ -24,7 +24,7 @@ fn main(rt: HostRuntime) -> ExitCode {
     let Ok(threads) = rt.clone() else {
         return ExitCode::from(refuse_memory(&mut err));
     };
-    let mut devices = Devices {
+    let mut devices: Devices<Kinds<_, _, _, _, _, HostRuntime>> = Devices {
         files: HostFiles::new(alloc, &rt, rt.stderr()),
         input: StdinSource::new(&rt, rt.stdin()),
         out: StdoutSink::new(rt.stdout()),

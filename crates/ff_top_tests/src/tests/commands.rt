@@ -28,8 +28,5 @@ soak 3 | 1\n | 0 | records 3\nkeys 3\ntotal 5106\n |
 soak --workers 1 --cap 1 5 | 1\n | 0 | records 5\nkeys 5\ntotal 6765\n |
 soak --workers 17 5 | 1\n | 1 |  | ffrun: usage: run, check, plan, mdf, dc or soak\n
 // commands that are not built
-mdf 'a = copy 1; out a' | 1\n | 2 |  | ffrun: not built\n
 dc fib 10 | 1\n | 2 |  | ffrun: not built\n
-// It isn't read, though the file isn't there.
-mdf -f other.txt | 1\n | 2 |  | ffrun: not built\n
 "#;

@@ -1,7 +1,8 @@
 -- What is answered, by how the command ended.
 use Rattle.std.proofs.Common.{subst}
-use Rattle.ff_top.proofs.Calls.{complete, usage, no_command, done, Contains-status, ReadsNone-early, ReadsNone-other}
-use Rattle.ff_top.specs.Messages.{said, Tells}
+use Rattle.ff_call.specs.Messages.{said, Tells}
+use Rattle.ff_top.proofs.Calls.{complete}
+use Rattle.ff_top.proofs.Statuses.{usage, no_command, done, Contains-status, IsEarly-low}
 use Rattle.ff_words.specs.Parsed.{texts}
 use Rattle.ff_top.proofs.top.ffrun.Goals as goal
 
@@ -14,7 +15,7 @@ returns-clause-ends g c = record {
   has_status = c.status_of.ensures;
   comes = c.execute-ending.ensures.comes;
   counts = c.execute-ending.ensures.counts;
-  says = subst (λ err. Tells (g.E.Sink.taken err) (g.E.Sink.taken c.tell.new.err) (g.E.Sink.faults err) (g.E.Sink.faults c.tell.new.err) (said c.execute-ending.result))
+  says = subst (λ err. Tells (g.M.Err.Sink.taken err) (g.M.Err.Sink.taken c.tell.new.err) (g.M.Err.Sink.faults err) (g.M.Err.Sink.faults c.tell.new.err) (said c.execute-ending.result))
       c.execute-ending.ensures.err c.tell.ensures;
 }
 
@@ -40,11 +41,9 @@ returns-clause-complete g c =
     c.status_of.result e.result c.status_of.ensures e.ensures.comes e.ensures.counts
 
 pub returns-clause-unread : goal.returns-clause-unread
-returns-clause-unread g c early =
+returns-clause-unread g c low =
     let e = c.execute-ending in
-    e.ensures.input (ReadsNone-early c.status_of.result e.result _ c.status_of.ensures early)
+    e.ensures.early (IsEarly-low c.status_of.result e.result c.status_of.ensures low)
 
 pub returns-clause-unread_by : goal.returns-clause-unread_by
-returns-clause-unread_by g c other =
-    let e = c.execute-ending in
-    e.ensures.input (ReadsNone-other (texts c.args.words.now) _ _ e.result e.ensures.comes other)
+returns-clause-unread_by g c other = c.execute-ending.ensures.unread other

@@ -1,0 +1,2 @@
+pub mod Computings
+pub mod Entries

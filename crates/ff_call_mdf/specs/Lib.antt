@@ -1,0 +1,4 @@
+pub mod StoreText
+pub mod Programs
+pub mod Computing
+pub mod MdfLaws

@@ -1,0 +1,4 @@
+pub mod Running
+pub mod Finishing
+pub mod LimitLaws
+pub mod RunLaws

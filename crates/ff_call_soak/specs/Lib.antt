@@ -1,0 +1,2 @@
+pub mod Soaking
+pub mod SoakLaws
