@@ -1,0 +1,5 @@
+//! Tests of `ff_numbers`.
+#![tactic(auto)]
+
+#[cfg(test)]
+mod tests;
