@@ -14,8 +14,8 @@ use std::test::Fail;
 mod backlog;
 mod threads;
 
-// So many messages go through a chain in the longer tests: a drop by deep calls would overflow the stack, and each message kept takes
-// 16 bytes or more.
+// So many messages go through a chain in the longer tests: a drop by deep calls would overflow the stack, and each
+// message that is kept takes 16 bytes or more.
 const MANY: u64 = 200_000;
 
 // A chain whose bells nobody hears.
@@ -172,8 +172,8 @@ fn an_end_is_never_refused(rt: HostRuntime) -> Result<(), Fail> {
     Ok(())
 }
 
-// A segment of one slot has one message. The first segment goes to the reader at once, and 32 more behind links on the spine. Further
-// links wait at the writer, until the reader has taken as many off the spine.
+// A segment of one slot has one message. The first segment goes to the reader at once, and 32 more behind links on the
+// spine. Further links wait at the writer, until the reader has taken as many off the spine.
 #[test]
 fn a_flush_waits_for_room_on_the_spine(rt: HostRuntime) -> Result<(), Fail> {
     let (mut out, mut inn) = fresh(rt.alloc(), 1)?;

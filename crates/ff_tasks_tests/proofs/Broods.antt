@@ -13,7 +13,9 @@ use Rattle.ff_tasks_tests.specs.declared.brood.Brood.{Brood}
 use Rattle.ff_tasks_tests.specs.Broods.{young, came, Holds, IsRight, HasGrown, brood_does}
 
 -- by equations of its parts
-Goes-by : (b b' : Brood) (log : List (SchedEvent ℕ ℕ)) → Holds b'.ready.items b'.answers.items b'.came b'.given b'.back log → b'.events ≡ log → Goes brood_does b b' log
+Goes-by : (b b' : Brood) (log : List (SchedEvent ℕ ℕ))
+    → Holds b'.ready.items b'.answers.items b'.came b'.given b'.back log → b'.events ≡ log
+    → Goes brood_does b b' log
 Goes-by b b' log holds noted = record {
   right = subst (λ e. Holds b'.ready.items b'.answers.items b'.came b'.given b'.back e) (sym noted) holds;
   kind = refl;
@@ -27,7 +29,8 @@ below n n' ks less all = AllByRecursion-weaker (λ k. k < n) (λ k. k < n') (λ 
 
 module _ (b : Brood) (right : IsRight b) where
   -- a task is fed in
-  pub Goes-fed : (u b' : Brood) (t : ℕ) → u.ready.items ≡ b.ready.items → u.answers.items ≡ b.answers.items → u.came ≡ b.came → u.given ≡ b.given → u.back ≡ b.back → u.events ≡ Offered t ∷ b.events
+  pub Goes-fed : (u b' : Brood) (t : ℕ) → u.ready.items ≡ b.ready.items → u.answers.items ≡ b.answers.items
+      → u.came ≡ b.came → u.given ≡ b.given → u.back ≡ b.back → u.events ≡ Offered t ∷ b.events
       → HasGrown u b' 1 t → Goes brood_does b b' (Offered t ∷ b.events)
   Goes-fed u b' t ready answers all out back noted grown =
       let more : b'.ready.items ≡ b.ready.items ++ t ∷ [] = grown.ready_is ∙ ap (λ r. r ++ t ∷ []) ready in
@@ -43,7 +46,8 @@ module _ (b : Brood) (right : IsRight b) where
       }) (grown.events_stay ∙ noted)
 
   -- an answer is back, and its tasks come
-  pub Goes-back : (u b' : Brood) (id a : ℕ) → IsOut id b.events → u.ready.items ≡ b.ready.items → u.answers.items ≡ b.answers.items ++ a ∷ [] → u.came ≡ b.came → u.given ≡ b.given → u.back ≡ b.back + 1
+  pub Goes-back : (u b' : Brood) (id a : ℕ) → IsOut id b.events → u.ready.items ≡ b.ready.items
+      → u.answers.items ≡ b.answers.items ++ a ∷ [] → u.came ≡ b.came → u.given ≡ b.given → u.back ≡ b.back + 1
       → u.events ≡ Back id a ∷ b.events → HasGrown u b' (a % 1000) (a / 1000) → Goes brood_does b b' (Back id a ∷ b.events)
   Goes-back u b' id a is_out ready answers all out back noted grown =
       let more : b'.ready.items ≡ b.ready.items ++ young a = grown.ready_is ∙ ap (λ r. r ++ young a) ready in
@@ -66,7 +70,9 @@ module _ (b : Brood) (right : IsRight b) where
   back-fits id is_out = omega (arith, back-below id is_out, right.all_is, right.few)
 
   -- none is ready
-  pub Nexts-none : (b' : Brood) → b.ready.items ≡ [] → b'.ready.items ≡ b.ready.items → b'.answers.items ≡ b.answers.items → b'.came ≡ b.came → b'.given ≡ b.given → b'.back ≡ b.back → b'.events ≡ b.events
+  pub Nexts-none : (b' : Brood) → b.ready.items ≡ [] → b'.ready.items ≡ b.ready.items
+      → b'.answers.items ≡ b.answers.items → b'.came ≡ b.came → b'.given ≡ b.given → b'.back ≡ b.back
+      → b'.events ≡ b.events
       → Nexts brood_does b None b'
   Nexts-none b' none ready answers all out back noted = (
     record { by = λ h. omega (arith, right.tasks h, ap (weigh h) none) },
@@ -86,7 +92,8 @@ module _ (b : Brood) (right : IsRight b) where
   given-fits t rest last = omega (arith, right.all_is, right.few, ap length last, length-append rest (t ∷ []))
 
   -- the last ready task is given
-  pub Nexts-some : (b' : Brood) (t : ℕ) → b.ready.items ≡ b'.ready.items ++ t ∷ [] → b'.answers.items ≡ b.answers.items → b'.came ≡ b.came → b'.given ≡ b.given + 1 → b'.back ≡ b.back
+  pub Nexts-some : (b' : Brood) (t : ℕ) → b.ready.items ≡ b'.ready.items ++ t ∷ []
+      → b'.answers.items ≡ b.answers.items → b'.came ≡ b.came → b'.given ≡ b.given + 1 → b'.back ≡ b.back
       → b'.events ≡ Given b.given t ∷ b.events → Nexts brood_does b (Some (b.given, t)) b'
   Nexts-some b' t last answers all out back noted = (
     record { by = λ h. omega (arith, right.tasks h, ap (weigh h) last, weigh-append h b'.ready.items (t ∷ [])) },

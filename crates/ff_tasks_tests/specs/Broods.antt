@@ -26,15 +26,15 @@ came_back (Given id t ∷ log) = came_back log
 came_back (Back id a ∷ log) = came_back log ++ a ∷ []
 
 -- these tasks are ready, these answers came back, and so many tasks came, were given and are back
-pub record Holds (ready answers : List ℕ) (all out_so_far back : ℕ) (log : List (SchedEvent ℕ ℕ)) : Type 0 where
+pub record Holds (ready answers : List ℕ) (all gave back : ℕ) (log : List (SchedEvent ℕ ℕ)) : Type 0 where
   -- each task that came was given or is ready
   pub tasks : (h : ℕ → ℕ) → weigh h (given log) + weigh h ready ≡ weigh h (came log)
   pub answers_are : answers ≡ came_back log
-  pub all_is : all ≡ out_so_far + length ready
+  pub all_is : all ≡ gave + length ready
   pub few : all < 2 ^ 64
-  pub given_is : out_so_far ≡ length (numbers log)
+  pub given_is : gave ≡ length (numbers log)
   pub back_is : back ≡ length (backs log)
-  pub numbers_below : AllByRecursion (λ n. n < out_so_far) (numbers log)
+  pub numbers_below : AllByRecursion (λ n. n < gave) (numbers log)
   pub balance : Within (backs log) (numbers log)
 
 -- what it holds is as its events say

@@ -1,5 +1,5 @@
-// What no clause says: that memory is there, that starts succeed, that runs come to their end and leave no thread behind, and that
-// handlers run at the same time.
+// What no clause says: that memory is there, that starts succeed, that runs come to their end and leave no thread
+// behind, and that handlers run at the same time.
 ghost use Rattle.std.specs.Prelude.{◌≤◌};
 
 use crate::Brood;
@@ -49,8 +49,8 @@ fn in_order(numbers: Vec<u64>) -> Result<Vec<u64>, NoMemory> {
     Ok(numbers)
 }
 
-// Has workers answer these tasks, at most `left` each, where start `refuse` is refused, counted from 1. No thread has a handler any
-// more then.
+// Has workers answer these tasks, at most `left` each, where start `refuse` is refused, counted from 1. No thread has a
+// handler any more then.
 fn by_threads<R: Host>(
     rt: &R,
     alloc: Global,

@@ -29,7 +29,8 @@ struct Side {
     door: Arc<Barrier, Global>,
 }
 
-// Sleeps until the bell rings, once a try found nothing that began behind an earlier call. It answers whether the next try is that one.
+// Sleeps until the bell rings, once a try found nothing that began behind an earlier call. It answers whether the next
+// try is that one.
 fn sleeps(rt: &impl Wait, bell: &Bell, tried: bool) -> bool {
     if tried {
         bell.sleep(rt, Duration::from_secs(u64::MAX));

@@ -1,5 +1,5 @@
--- The writing end goes to the other thread and comes back. Its parts are shown one by one, since a search through all of them at once
--- runs out of steps.
+-- The writing end goes to the other thread and comes back. What goes is shown part by part, since a search through all
+-- of it at once runs out of steps.
 use denote.Builtin.{u64}
 use denote.Param.Send.{IsSend, sendable}
 use Rattle.std.proofs.Crossing.{crosses}
