@@ -28,7 +28,7 @@ CALLS = [
     run_of("--one", "--rejects", "kept", "-f", "net.txt"),
     Call(["check", NETWORK], None, NETWORK.encode() + b"\n", b"", False),
     Call(["plan", "-f", "one.txt"], None, b"0 stage 0 > 1 : add 1 5\n", b"", False),
-    Call(["mdf", "q r = divmod 7 2; out q r", "--workers", "2"], None, b"q\t3\nr\t1\n", b"", True),
+    Call(["mdf", "q r = divmod 7 2; out q r", "--workers", "4"], None, b"q\t3\nr\t1\n", b"", True),
     Call(["soak", "3", "--workers", "2"], None, b"records 3\nkeys 3\ntotal 5106\n", b"", True),
 ]
 
