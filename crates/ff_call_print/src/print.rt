@@ -17,7 +17,7 @@ use ff_words::Given;
 use std::alloc::Global;
 
 /// What is printed of a network.
-#[derive(Clone, Copy, Debug, PartialEq, Eq, Hash)]
+#[derive(Clone, Copy, Debug, PartialEq, Eq)]
 pub enum Form {
     /// The network itself, and a newline.
     Network,

@@ -1,7 +1,7 @@
 // The rules.
 
 /// What is asked of some numbers, or of one number.
-#[derive(Clone, Copy, Debug, PartialEq, Eq, Hash)]
+#[derive(Clone, Copy, Debug, PartialEq, Eq)]
 pub enum DcRule {
     /// The number of Fibonacci at the size of a part.
     Fib,

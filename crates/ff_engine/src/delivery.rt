@@ -2,7 +2,7 @@
 
 /// When a stage hands over what its node sent. Whatever is chosen, the same records come; so no clause hangs on it but
 /// that of the rings.
-#[derive(Clone, Copy, Debug, PartialEq, Eq, Hash)]
+#[derive(Clone, Copy, Debug, PartialEq, Eq)]
 pub enum Delivery {
     /// As soon as the next unit is seen to have taken all else. So a node may take long for its next record, or wait until another
     /// node has begun the one before.

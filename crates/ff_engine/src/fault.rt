@@ -5,7 +5,7 @@ use ff_stream::RunFault;
 use std::alloc::AllocError;
 
 /// Why a run by threads ended without its answer.
-#[derive(Clone, Copy, Debug, PartialEq, Eq, Hash)]
+#[derive(Clone, Copy, Debug, PartialEq, Eq)]
 pub enum NetFault {
     /// The start of a thread was refused. Nothing was read and nothing written.
     Refused,

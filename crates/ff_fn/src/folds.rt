@@ -4,7 +4,7 @@ ghost use Rattle.ff_fn.specs.Rules.{fold_value, IsState};
 ghost use Rattle.ff_fn.specs.Keeping.{KeepsFold};
 
 /// A rule of folds. Each begins at the state 0.
-#[derive(Clone, Copy, Debug, PartialEq, Eq, Hash)]
+#[derive(Clone, Copy, Debug, PartialEq, Eq)]
 pub enum FoldRule {
     /// The greatest common divisor of the state and the number. States are from 0 to 2^63.
     Gcd,

@@ -4,7 +4,7 @@ ghost use Rattle.ff_fn.specs.Rules.{map_value};
 ghost use Rattle.ff_fn.specs.Keeping.{KeepsMap};
 
 /// A rule of maps.
-#[derive(Clone, Copy, Debug, PartialEq, Eq, Hash)]
+#[derive(Clone, Copy, Debug, PartialEq, Eq)]
 pub enum MapRule {
     /// The sum of the decimal digits of the absolute value.
     Digits,

@@ -4,7 +4,7 @@ ghost use Rattle.ff_fn.specs.Rules.{test_value};
 ghost use Rattle.ff_fn.specs.Keeping.{KeepsTest};
 
 /// A rule of tests.
-#[derive(Clone, Copy, Debug, PartialEq, Eq, Hash)]
+#[derive(Clone, Copy, Debug, PartialEq, Eq)]
 pub enum TestRule {
     /// The number is the square of a whole number.
     Square,

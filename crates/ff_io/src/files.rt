@@ -13,7 +13,7 @@ use std::io;
 use std::io::ErrorKind;
 
 /// Why a file wasn't loaded.
-#[derive(Clone, Copy, Debug, PartialEq, Eq, Hash)]
+#[derive(Clone, Copy, Debug, PartialEq, Eq)]
 pub enum FileFault {
     /// There is no such file, or it couldn't be read.
     Failed,
@@ -23,7 +23,7 @@ pub enum FileFault {
 }
 
 /// Why a file wasn't stored.
-#[derive(Clone, Copy, Debug, PartialEq, Eq, Hash)]
+#[derive(Clone, Copy, Debug, PartialEq, Eq)]
 pub enum StoreFault {
     Failed,
     NoMemory,

@@ -5,7 +5,7 @@ ghost use Rattle.ff_io.specs.Bytes.{AppendsPrefix, is_end};
 ghost use Rattle.ff_io.specs.Faults.{HasCause, count_after};
 
 /// The device failed. The count of its faults tells that it did.
-#[derive(Clone, Copy, Debug, PartialEq, Eq, Hash)]
+#[derive(Clone, Copy, Debug, PartialEq, Eq)]
 pub struct Failed;
 
 /// A stream of bytes that is read in pieces.

@@ -8,7 +8,7 @@ use Rattle.ff_rec.specs.declared.msg.Msg.TheVariants.{Mark, Eos as EosMsg}
 use Rattle.ff_node.specs.Behaviour.{Behaviour, KeepsKind, node_rejected}
 use Rattle.ff_node.specs.Classes.{ClassLaw}
 use Rattle.ff_node.specs.Fits.{FitsStage, FitsWorker, IsItemOrMark, replaced}
-use Rattle.ff_node.specs.Runs.{Message, AllGoOn, HasOuts, BeginsToFit, FitsWhole}
+use Rattle.ff_node.specs.Runs.{Message, AllGoOn, AreOpen, HasOuts, BeginsToFit, FitsWhole}
 use Rattle.ff_node.specs.Sends.{counted}
 use Rattle.ff_node.specs.declared.class.Class.TheVariants.{Plain}
 use Rattle.ff_port.specs.declared.answers.End.TheVariants.{Eos, Abort}
@@ -24,7 +24,7 @@ use Rattle.ff_unit.specs.StageTiedLaws.{TiedAt}
 use Rattle.ff_unit.specs.StageUnit.{stage_does}
 use Rattle.ff_unit.specs.Units.{IsUnit, Ran, HasRejects, HasAbort, TookAbort}
 use Rattle.ff_unit.specs.declared.mode.Mode.TheVariants.{Live}
-use Rattle.ff_loop.specs.WorkerMarkLaws.{with_marks, with_marks-append, with_marks-unaborted, items-with_marks, IsOpen-with_marks, HasAbort-with_marks, IsItemOrMark-with_marks, replaced-with_marks, with_marks-closed}
+use Rattle.ff_loop.specs.WorkerMarkLaws.{with_marks, with_marks-append, with_marks-unaborted, items-with_marks, IsOpen-with_marks, IsOpen-unmarked, HasAbort-with_marks, IsItemOrMark-with_marks, replaced-with_marks, with_marks-closed}
 use Rattle.ff_loop.specs.WorkerTakesLaws.{IsLevel, IsMarkedAt}
 use Rattle.ff_loop.specs.WorkerUnit.{worker_does}
 use Rattle.ff_loop.specs.WorkerPortLaws.{IsMarkedRun, node-at, level-at, ins-at, HasRun-marked}
@@ -122,7 +122,7 @@ module _ {N : Type 0} (b : Behaviour N) (kind : KeepsKind b) (law : (o : N) → 
   whole-worker u gots puts ran done fin = of (HasRun-marked b u gots puts ran.1)
     where
       of : IsMarkedRun b u gots puts → FitsWhole (FitsWorker b u.node) gots puts
-      of r = by whole.ins whole.gots_are whole.fits
+      of r = by whole.ins whole.ins_open whole.gots_are whole.fits
         where
           level : IsLevel r.stage u r.ins r.got
           level = level-at b r.stage u r.ins r.got Eos fin r.marked
@@ -130,20 +130,22 @@ module _ {N : Type 0} (b : Behaviour N) (kind : KeepsKind b) (law : (o : N) → 
           whole : FitsWhole (FitsStage b r.stage.node) (r.ins ∷ []) (r.put ∷ [])
           whole = unit.whole r.stage (r.ins ∷ []) (r.put ∷ []) (tt, r.run) (sym (ap (λ w. w.done) level.same) ∙ done) (sym (ap (λ w. w.fin) level.same) ∙ fin)
 
-          by : (ins : List (List Message)) → r.ins ∷ [] ≡ map closed ins → FitsStage b r.stage.node ins whole.outs → FitsWhole (FitsWorker b u.node) gots puts
-          by [] are fits = absurd (omega (arith, ap length are))
-          by (ms ∷ []) are fits =
+          by : (ins : List (List Message)) → AreOpen ins → r.ins ∷ [] ≡ map closed ins → FitsStage b r.stage.node ins whole.outs → FitsWhole (FitsWorker b u.node) gots puts
+          by [] opens are fits = absurd (omega (arith, ap length are))
+          by (ms ∷ []) opens are fits =
               let unmarked = with_marks-closed r.got ms (sym level.ins_are ∙ ap (λ l. at l 0) are) in
               record {
                 ins = unmarked.inner ∷ [];
                 outs = whole.outs;
+                ins_open = (IsOpen-unmarked unmarked.inner (subst IsOpen unmarked.marked opens.0), tt);
+                outs_open = whole.outs_open;
                 gots_are = r.gots_are ∙ ap (λ l. l ∷ []) unmarked.is;
                 puts_are = r.puts_are ∙ whole.puts_are;
                 fits = FitsWorker-marked b u.node unmarked.inner whole.outs (plain-node u gots puts ran)
                     (subst (λ o. FitsStage b o (with_marks unmarked.inner ∷ []) whole.outs) (node-at b r.stage u r.ins r.got r.marked)
                     (subst (λ l. FitsStage b r.stage.node (l ∷ []) whole.outs) unmarked.marked fits));
               }
-          by (ms ∷ next ∷ mss) are fits = absurd (omega (arith, ap length are))
+          by (ms ∷ next ∷ mss) opens are fits = absurd (omega (arith, ap length are))
 
   -- its rejects
   rejects-worker : (u : StageState N) (gots puts : List (List Message)) → Ran (worker_does b) u gots puts → u.done ≡ true → u.fin ≡ Some Eos

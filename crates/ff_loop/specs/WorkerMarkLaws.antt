@@ -52,6 +52,14 @@ IsOpen-with_marks (Pick w ∷ ms) h = (tt, IsOpen-with_marks ms h.1)
 IsOpen-with_marks (Eos ∷ ms) h = absurd h.0
 IsOpen-with_marks (Abort ∷ ms) h = absurd h.0
 
+pub IsOpen-unmarked : (ms : List Message) → IsOpen (with_marks ms) → IsOpen ms
+IsOpen-unmarked [] h = tt
+IsOpen-unmarked (Item x ∷ ms) h = (tt, IsOpen-unmarked ms h.1.1)
+IsOpen-unmarked (Mark ∷ ms) h = (tt, IsOpen-unmarked ms h.1)
+IsOpen-unmarked (Pick w ∷ ms) h = (tt, IsOpen-unmarked ms h.1)
+IsOpen-unmarked (Eos ∷ ms) h = absurd h.0
+IsOpen-unmarked (Abort ∷ ms) h = absurd h.0
+
 -- no Abort comes in by it
 pub HasAbort-with_marks : (ms : List Message) → HasAbort (with_marks ms) → HasAbort ms
 HasAbort-with_marks [] h = h

@@ -5,17 +5,18 @@ use Rattle.std.proofs.Common.{refl, sym, ap, ap₂, ◌∙◌, subst, arith, app
 use Rattle.std.proofs.lemmas.Bool.{cases_lt, false≢true}
 use Rattle.std.proofs.lemmas.List.{append_cancel_right}
 use Rattle.std.proofs.lemmas.Option.{none-some}
-use Rattle.ff_rec.specs.Streams.{at, carried, closed, items}
+use Rattle.ff_rec.specs.Streams.{IsOpen, at, carried, closed, items}
 use Rattle.ff_rec.specs.declared.msg.Msg.TheVariants.{Eos as EosMsg}
 use Rattle.ff_net.specs.Logs.{AreMasterIns, CarryTasks, FitsMaster, HasDone, HasOverrun, came, fed, given_to}
 use Rattle.ff_node.specs.Fits.{IsItemOrMark}
-use Rattle.ff_node.specs.Runs.{Message, FitsWhole}
+use Rattle.ff_node.specs.Runs.{Message, AreOpen, FitsWhole}
 use Rattle.ff_port.specs.declared.answers.End.{End}
 use Rattle.ff_port.specs.declared.answers.End.TheVariants.{Eos}
 use Rattle.ff_unit.specs.CarriedLaws.{items-carried}
 use Rattle.ff_unit.specs.Closing.{any_live, decided}
 use Rattle.ff_unit.specs.DealPairLaws.{on, on-append}
 use Rattle.ff_unit.specs.FlagLaws.{live-none}
+use Rattle.ff_unit.specs.MessageLaws.{IsOpen-carried}
 use Rattle.ff_unit.specs.declared.mode.Mode.{Mode}
 use Rattle.ff_unit.specs.declared.mode.Mode.TheVariants.{Live, Shut, Cut}
 use Rattle.ff_loop.specs.Rounds.{test_of, limit_of, workers_of, log_of, taken_of}
@@ -26,17 +27,23 @@ use Rattle.ff_loop.specs.WrapTiedLaws.{TiedShut, TiedAt, IsTied, end_by}
 -- whole lists, each with its one Eos
 pub record AreClosed (lists : List (List Message)) : Type 0 where
   pub fronts : List (List Message)
+  pub opens : AreOpen fronts
   pub are : lists ≡ map closed fronts
   pub number : length fronts ≡ length lists
   pub each : (j : ℕ) → j < length lists → at lists j ≡ closed (at fronts j)
 
-AreClosed-each : (lists : List (List Message)) → ((j : ℕ) → j < length lists → (front : List Message) × (at lists j ≡ closed front)) → AreClosed lists
-AreClosed-each [] each = record { fronts = []; are = refl; number = refl; each = λ j below. absurd (omega (arith, below)) }
+-- a list with its one Eos
+abbrev HasFront : List Message → Type 0
+HasFront ms = (front : List Message) × (ms ≡ closed front) × IsOpen front
+
+AreClosed-each : (lists : List (List Message)) → ((j : ℕ) → j < length lists → HasFront (at lists j)) → AreClosed lists
+AreClosed-each [] each = record { fronts = []; opens = tt; are = refl; number = refl; each = λ j below. absurd (omega (arith, below)) }
 AreClosed-each (l ∷ lists) each =
     let first = each 0 (omega arith) in
     let rest = AreClosed-each lists (λ j below. each (suc j) (omega (arith, below))) in
     record {
       fronts = first.0 ∷ rest.fronts;
+      opens = (first.2, rest.opens);
       are = ap₂ (λ a ls. a ∷ ls) first.1 rest.are;
       number = ap suc rest.number;
       each = by first.0 rest.fronts first.1 rest.each;
@@ -65,11 +72,12 @@ module _ (u : WrapState) (gots puts : List (List Message)) (t : IsTied u gots pu
   outs_closed : AreClosed puts
   outs_closed = AreClosed-each puts (λ j below. by j (cases_lt j (workers_of u.round)) (omega (arith, below, t.puts_are.outs)))
     where
-      by : (j : ℕ) → (j < workers_of u.round) ⊎ (workers_of u.round ≤ j) → j < suc (workers_of u.round) → (front : List Message) × (at puts j ≡ closed front)
-      by j (inl inner) below = (carried (given_to j (log_of u.round)), task j inner)
+      by : (j : ℕ) → (j < workers_of u.round) ⊎ (workers_of u.round ≤ j) → j < suc (workers_of u.round) → HasFront (at puts j)
+      by j (inl inner) below =
+          let tasks = given_to j (log_of u.round) in (carried tasks, task j inner, IsOpen-carried tasks)
       by j (inr last) below =
           let same : j ≡ workers_of u.round = omega (arith, last, below) in
-          (carried (taken_of u.round), ap (at puts) same ∙ result)
+          (carried (taken_of u.round), ap (at puts) same ∙ result, IsOpen-carried (taken_of u.round))
 
   -- what was taken at the in of a worker
   answer : (j : ℕ) (below : j < workers_of u.round) → at gots (suc j) ≡ closed (s.answers j below).front
@@ -78,9 +86,9 @@ module _ (u : WrapState) (gots puts : List (List Message)) (t : IsTied u gots pu
   ins_closed : AreClosed gots
   ins_closed = AreClosed-each gots (λ j below. by j (omega (arith, below, t.ins)))
     where
-      by : (j : ℕ) → j < suc (workers_of u.round) → (front : List Message) × (at gots j ≡ closed front)
-      by zero below = (s.fed_in.0, s.fed_in.1)
-      by (suc j) below = let inner : j < workers_of u.round = omega (arith, below) in ((s.answers j inner).front, answer j inner)
+      by : (j : ℕ) → j < suc (workers_of u.round) → HasFront (at gots j)
+      by zero below = (s.fed_in.0, s.fed_in.1, s.fed_in.2)
+      by (suc j) below = let inner : j < workers_of u.round = omega (arith, below) in ((s.answers j inner).front, answer j inner, (s.answers j inner).inner)
 
   in_at : (j : ℕ) (front : List Message) → j < suc (workers_of u.round) → at gots j ≡ closed front → at ins_closed.fronts j ≡ front
   in_at j front below e = at-closed gots ins_closed j front (omega (arith, below, t.ins)) e
@@ -128,6 +136,8 @@ module _ (u : WrapState) (gots puts : List (List Message)) (t : IsTied u gots pu
   whole-shut = record {
     ins = ins_closed.fronts;
     outs = outs_closed.fronts;
+    ins_open = ins_closed.opens;
+    outs_open = outs_closed.opens;
     gots_are = ins_closed.are;
     puts_are = outs_closed.are;
     fits = record {

@@ -5,7 +5,7 @@ use ff_rec::NoMemory;
 use ff_tasks::Handler;
 
 /// Does the operation of a task on its values.
-#[derive(Clone, Copy, Debug, PartialEq, Eq, Hash)]
+#[derive(Clone, Copy, Debug, PartialEq, Eq)]
 pub struct MdfHandler;
 
 impl Handler<MdfTask, MdfAnswer> for MdfHandler {

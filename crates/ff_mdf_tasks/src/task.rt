@@ -8,7 +8,7 @@ ghost use Rattle.ff_mdf_tasks.specs.Queues.{ready_by};
 use ff_mdf::{CheckedProgram, Link, Links, MdfAnswer, MdfOp, Operand, Statement, Value};
 
 /// A task that can be done: its operands have their values.
-#[derive(Clone, Copy, Debug, PartialEq, Eq, Hash)]
+#[derive(Clone, Copy, Debug, PartialEq, Eq)]
 pub struct MdfTask {
     /// The number of its statement, counted from 1.
     pub number: u32,

@@ -5,7 +5,7 @@ use ff_node::Cmp;
 use ff_rec::Record;
 
 /// How a farm deals its records out to its workers.
-#[derive(Clone, Copy, Debug, PartialEq, Eq, Hash)]
+#[derive(Clone, Copy, Debug, PartialEq, Eq)]
 pub enum Sched {
     /// Round robin.
     Rr,
@@ -14,7 +14,7 @@ pub enum Sched {
 }
 
 /// How a record goes from the left set of an all-to-all to the right one.
-#[derive(Clone, Copy, Debug, PartialEq, Eq, Hash)]
+#[derive(Clone, Copy, Debug, PartialEq, Eq)]
 pub enum Route {
     /// Round robin.
     Rr,
@@ -26,7 +26,7 @@ pub enum Route {
 
 /// A test of one field of a record, counted from 1. It is met where the field is there, is a number, and stands to
 /// `value` as `cmp` says.
-#[derive(Clone, Copy, Debug, PartialEq, Eq, Hash)]
+#[derive(Clone, Copy, Debug, PartialEq, Eq)]
 pub struct Test {
     pub field: u32,
     pub cmp: Cmp,
@@ -49,7 +49,7 @@ impl Test {
 }
 
 /// The version of a description.
-#[derive(Clone, Copy, Debug, PartialEq, Eq, Hash)]
+#[derive(Clone, Copy, Debug, PartialEq, Eq)]
 pub enum Version {
     One,
     Two,

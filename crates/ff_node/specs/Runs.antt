@@ -1,7 +1,8 @@
 -- What a unit does step by step, and what its ports see of it. A unit is any state with a relation of its steps.
 use Rattle.std.specs.Prelude.{◌≡◌, ℕ, List, [], ◌∷◌, ◌++◌, map, replicate}
+use Rattle.std.specs.List.{AllByRecursion}
 use Rattle.ff_rec.specs.Lines.{Rec}
-use Rattle.ff_rec.specs.Streams.{added, unaborted, closed, GoesOn}
+use Rattle.ff_rec.specs.Streams.{IsOpen, added, unaborted, closed, GoesOn}
 use Rattle.ff_rec.specs.declared.msg.Msg.{Msg}
 
 -- a message between two units
@@ -96,10 +97,16 @@ pub record HasOuts (Fits : List (List Message) → List (List Message) → Type 
 abbrev pub BeginsToFit : (List (List Message) → List (List Message) → Type 0) → List (List Message) → List (List Message) → Type 0
 BeginsToFit Fits gots puts = (ins : List (List Message)) → AllGoOn gots ins → HasOuts Fits ins puts
 
--- a unit fits what it took and put: each list ended with the one Eos
+-- no end stands in any of these lists
+abbrev pub AreOpen : List (List Message) → Type 0
+AreOpen mss = AllByRecursion IsOpen mss
+
+-- a unit fits what it took and put: each list ends with Eos, and no end stands anywhere else in it
 pub record FitsWhole (Fits : List (List Message) → List (List Message) → Type 0) (gots puts : List (List Message)) : Type 0 where
   pub ins : List (List Message)
   pub outs : List (List Message)
+  pub ins_open : AreOpen ins
+  pub outs_open : AreOpen outs
   pub gots_are : gots ≡ map closed ins
   pub puts_are : puts ≡ map closed outs
   pub fits : Fits ins outs

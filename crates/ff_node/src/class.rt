@@ -1,7 +1,7 @@
 // What is promised of a node, and whether it goes on.
 
 /// What is promised of a node, so that a network may hand its records out to several copies of it.
-#[derive(Clone, Copy, Debug, PartialEq, Eq, Hash)]
+#[derive(Clone, Copy, Debug, PartialEq, Eq)]
 pub enum Class {
     /// The state never matters, it never ends by itself, and sends nothing at the end.
     Plain,
@@ -14,7 +14,7 @@ pub enum Class {
 }
 
 /// Whether a node takes its next record or ends.
-#[derive(Clone, Copy, Debug, PartialEq, Eq, Hash)]
+#[derive(Clone, Copy, Debug, PartialEq, Eq)]
 pub enum Next {
     GoOn,
     Eos,

@@ -15,7 +15,7 @@ pub enum Arg {
 }
 
 /// What may stand in a place of an operation's arguments.
-#[derive(Clone, Copy, Debug, PartialEq, Eq, Hash)]
+#[derive(Clone, Copy, Debug, PartialEq, Eq)]
 pub enum ArgKind {
     /// A field number, from 1 to 64.
     Field,

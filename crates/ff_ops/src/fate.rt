@@ -7,7 +7,7 @@ use ff_rec::{NoMemory, Record};
 
 /// What becomes of a record once an operation has looked at it and, where it does that, changed it. It is moved only then: a
 /// move costs as much as many an operation.
-#[derive(Clone, Copy, Debug, PartialEq, Eq, Hash)]
+#[derive(Clone, Copy, Debug, PartialEq, Eq)]
 pub(crate) enum Fate {
     /// It is sent as it is now.
     Sent,

@@ -8,7 +8,7 @@ use ff_rec::Record;
 const MOST: u128 = 1 << 126;
 
 /// A fold over all records.
-#[derive(Clone, Copy, Debug, PartialEq, Eq, Hash)]
+#[derive(Clone, Copy, Debug, PartialEq, Eq)]
 pub enum FoldOp {
     /// How many records there were.
     Tally(u64),

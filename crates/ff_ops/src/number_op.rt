@@ -15,7 +15,7 @@ use ff_rec::{Cmp, NoMemory, Record};
 
 /// An operation that works on the number in a field. It rejects a record whose field isn't there or isn't a number, or
 /// whose result is out of range.
-#[derive(Clone, Copy, Debug, PartialEq, Eq, Hash)]
+#[derive(Clone, Copy, Debug, PartialEq, Eq)]
 pub struct NumberOp {
     /// The field whose number is read, and changed; counted from 1.
     pub field: usize,
@@ -23,7 +23,7 @@ pub struct NumberOp {
 }
 
 /// What becomes of the number in the field.
-#[derive(Clone, Copy, Debug, PartialEq, Eq, Hash)]
+#[derive(Clone, Copy, Debug, PartialEq, Eq)]
 pub enum NumberRule {
     /// It becomes the sum of it and another.
     Add(i64),

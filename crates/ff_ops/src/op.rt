@@ -46,7 +46,7 @@ impl Model for Op {
 }
 
 /// Why a name with arguments is no operation. Places of arguments are counted from 0.
-#[derive(Clone, Copy, Debug, PartialEq, Eq, Hash)]
+#[derive(Clone, Copy, Debug, PartialEq, Eq)]
 pub enum OpFault {
     /// No row has the name.
     UnknownOp,

@@ -5,7 +5,7 @@ ghost use Rattle.ff_ops.specs.Table.{name_of, kinds_of, row_named, HasKinds};
 use crate::ArgKind;
 
 /// A row of the table, by its name.
-#[derive(Clone, Copy, Debug, PartialEq, Eq, Hash)]
+#[derive(Clone, Copy, Debug, PartialEq, Eq)]
 pub enum Row {
     Id,
     Add,

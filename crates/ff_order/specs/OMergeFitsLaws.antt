@@ -19,7 +19,7 @@ use Rattle.ff_order.specs.MergedLaws.{merged, gather-merged, FitsOMerge-from}
 use Rattle.ff_order.specs.OMerges.{OMergeState, OMergeReady, FitsOMerge, omerge_ins}
 use Rattle.ff_order.specs.OMergeBegunLaws.{TiedLive-begun, TiedAt-begun}
 use Rattle.ff_order.specs.OMergeTiedLaws.{IsTied, Meets, Begun, TiedAt, eos_after}
-use Rattle.ff_order.specs.PortLaws.{AllGoOn-length, FlagsFit-whole}
+use Rattle.ff_order.specs.PortLaws.{AllGoOn-length, AllGoOn-open, FlagsFit-whole}
 use Rattle.ff_order.specs.declared.order.Order.{Order}
 use Rattle.ff_order.specs.declared.order.Order.TheVariants.{InTurn, ByPick}
 
@@ -137,6 +137,8 @@ module _ (u : OMergeState) (gots puts : List (List Message)) (t : IsTied u gots 
           let put : t.put ≡ closed (carried s.ys) = sym (append-nil t.put) ∙ ap (λ h. t.put ++ h) (sym (t.ended done).0) ∙ s.is ∙ ap (λ b. carried s.ys ++ eos_after b) none in record {
             ins = whole.ins;
             outs = carried s.ys ∷ [];
+            ins_open = AllGoOn-open gots whole.ins whole.go_on;
+            outs_open = (IsOpen-carried s.ys, tt);
             gots_are = whole.gots_are;
             puts_are = t.puts_are ∙ ap (λ l. l ∷ []) put;
             fits = FitsOMerge-from u.order u.places whole.ins s.ys (sym (AllGoOn-length gots whole.ins whole.go_on) ∙ t.ins)

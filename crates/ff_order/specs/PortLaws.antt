@@ -5,7 +5,7 @@ use Rattle.std.proofs.lemmas.List.{append_cancel_left}
 use Rattle.std.specs.Prelude.{slice_set}
 use Rattle.ff_rec.specs.Streams.{IsOpen, IsOpenMsg, at, added, unaborted, closed, GoesOn}
 use Rattle.ff_rec.specs.declared.msg.Msg.TheVariants.{Eos as EosMsg}
-use Rattle.ff_node.specs.Runs.{Message, AllGoOn}
+use Rattle.ff_node.specs.Runs.{Message, AllGoOn, AreOpen}
 use Rattle.ff_unit.specs.Closing.{IsLive, any_live}
 use Rattle.ff_unit.specs.MessageLaws.{IsOpen-append, unaborted-append, unaborted-open, unaborted-closed}
 use Rattle.ff_unit.specs.StageTiedLaws.{IsClosed}
@@ -36,6 +36,13 @@ AllGoOn-length [] [] h = refl
 AllGoOn-length [] (ms ∷ ins) h = absurd h
 AllGoOn-length (g ∷ gots) [] h = absurd h
 AllGoOn-length (g ∷ gots) (ms ∷ ins) h = ap suc (AllGoOn-length gots ins h.1)
+
+-- no end stands in a list that was gone on with
+pub AllGoOn-open : (gots ins : List (List Message)) → AllGoOn gots ins → AreOpen ins
+AllGoOn-open [] [] h = tt
+AllGoOn-open [] (ms ∷ ins) h = absurd h
+AllGoOn-open (g ∷ gots) [] h = absurd h
+AllGoOn-open (g ∷ gots) (ms ∷ ins) h = (h.0.inner, AllGoOn-open gots ins h.1)
 
 -- where a list was to go on by `inner`, the message that joins it is the first of that, or its end
 pub GoesOn-next : (g inner ms : List Message) (m : Message) → IsOpen g → (unaborted (m ∷ []) ≡ m ∷ []) → ms ≡ g ++ inner

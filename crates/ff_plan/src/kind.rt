@@ -1,7 +1,7 @@
 // What the units and edges of a plan are.
 
 /// How messages go along an edge.
-#[derive(Clone, Copy, Debug, PartialEq, Eq, Hash)]
+#[derive(Clone, Copy, Debug, PartialEq, Eq)]
 pub enum Queue {
     /// Over a ring of so many slots.
     Ring,
@@ -10,7 +10,7 @@ pub enum Queue {
 }
 
 /// Who stands at an end of an edge.
-#[derive(Clone, Copy, Debug, PartialEq, Eq, Hash)]
+#[derive(Clone, Copy, Debug, PartialEq, Eq)]
 pub enum Party {
     /// The caller, who feeds the first edge and empties the last one.
     Caller,
@@ -19,7 +19,7 @@ pub enum Party {
 }
 
 /// What a unit does.
-#[derive(Clone, Copy, Debug, PartialEq, Eq, Hash)]
+#[derive(Clone, Copy, Debug, PartialEq, Eq)]
 pub enum UnitKind {
     /// A node, or a comb of nodes.
     Stage,

@@ -12,7 +12,7 @@ pub enum Put<T> {
 }
 
 /// What a unit did in one step, or in many in a row.
-#[derive(Clone, Copy, Debug, PartialEq, Eq, Hash)]
+#[derive(Clone, Copy, Debug, PartialEq, Eq)]
 pub enum Step {
     /// It took or put a message, or more in many steps, or a call of it was refused memory.
     Moved,
@@ -23,7 +23,7 @@ pub enum Step {
 }
 
 /// How a unit ended.
-#[derive(Clone, Copy, Debug, PartialEq, Eq, Hash)]
+#[derive(Clone, Copy, Debug, PartialEq, Eq)]
 pub enum End {
     /// Each of its ins gave its Eos.
     Eos,

@@ -3,7 +3,7 @@ use ff_rec::NoMemory;
 use std::alloc::{AllocError, AllocFailed};
 
 /// Why a text isn't a program, or a program isn't run. Statements are numbered from 1.
-#[derive(Clone, Copy, Debug, PartialEq, Eq, Hash)]
+#[derive(Clone, Copy, Debug, PartialEq, Eq)]
 pub enum ProgFault {
     /// This statement is the first that isn't of the grammar.
     Syntax(u32),

@@ -5,11 +5,11 @@ ghost use Rattle.ff_rec.specs.declared.fault.NoMemory.{NoMemory};
 use std::alloc::{AllocError, AllocFailed};
 
 /// Memory ran out. It may come wherever a call takes memory.
-#[derive(Clone, Copy, Debug, PartialEq, Eq, Hash)]
+#[derive(Clone, Copy, Debug, PartialEq, Eq)]
 pub struct NoMemory;
 
 /// Why bytes aren't a field.
-#[derive(Clone, Copy, Debug, PartialEq, Eq, Hash)]
+#[derive(Clone, Copy, Debug, PartialEq, Eq)]
 pub enum FieldFault {
     /// A tab or a newline stands at this place, counted from 0, and none before it.
     BadByte(usize),
@@ -17,7 +17,7 @@ pub enum FieldFault {
 }
 
 /// Why a field wasn't added to a record.
-#[derive(Clone, Copy, Debug, PartialEq, Eq, Hash)]
+#[derive(Clone, Copy, Debug, PartialEq, Eq)]
 pub enum PushFault {
     /// The record has 64 fields.
     Full,
@@ -25,7 +25,7 @@ pub enum PushFault {
 }
 
 /// Why a line isn't a record.
-#[derive(Clone, Copy, Debug, PartialEq, Eq, Hash)]
+#[derive(Clone, Copy, Debug, PartialEq, Eq)]
 pub enum CutFault {
     /// The line has more than 63 tabs.
     TooManyFields,
@@ -33,7 +33,7 @@ pub enum CutFault {
 }
 
 /// The first limit of a text that was passed. Lines are counted from 1.
-#[derive(Clone, Copy, Debug, PartialEq, Eq, Hash)]
+#[derive(Clone, Copy, Debug, PartialEq, Eq)]
 pub enum LineFault {
     /// This line has more bytes than a line may have, its newline not counted.
     TooLong(u64),
@@ -44,7 +44,7 @@ pub enum LineFault {
 }
 
 /// Why no more pieces of a text are read.
-#[derive(Clone, Copy, Debug, PartialEq, Eq, Hash)]
+#[derive(Clone, Copy, Debug, PartialEq, Eq)]
 pub enum FeedFault {
     Line(LineFault),
     NoMemory,

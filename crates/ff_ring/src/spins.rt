@@ -3,7 +3,7 @@ ghost use Rattle.std.specs.Prelude.{◌≡◌};
 ghost use Rattle.ff_ring.specs.SpinCounts.{most_spins, most_looks};
 
 /// How long a thread spins before it lies down.
-#[derive(Clone, Copy, Debug, PartialEq, Eq, Hash)]
+#[derive(Clone, Copy, Debug, PartialEq, Eq)]
 pub enum Spins {
     /// At most 64 between two tries: many messages come at once, and more spins would take the processor from those who send them.
     Few,

@@ -2,7 +2,7 @@
 use ff_rec::NoMemory;
 
 /// Why a soak has no summary.
-#[derive(Clone, Copy, Debug, PartialEq, Eq, Hash)]
+#[derive(Clone, Copy, Debug, PartialEq, Eq)]
 pub enum SoakFault {
     /// The start of a thread was refused.
     Refused,

@@ -9,7 +9,7 @@ pub enum StartFault<J> {
 }
 
 /// Why a spawner doesn't admit a start.
-#[derive(Clone, Copy, Debug, PartialEq, Eq, Hash)]
+#[derive(Clone, Copy, Debug, PartialEq, Eq)]
 pub enum Denial {
     Refused,
     NoMemory,

@@ -6,7 +6,7 @@ use ff_dc::Numbers;
 use ff_rec::NoMemory;
 
 /// How a cell is made anew from itself and its two neighbours.
-#[derive(Clone, Copy, Debug, PartialEq, Eq, Hash)]
+#[derive(Clone, Copy, Debug, PartialEq, Eq)]
 pub enum StencilRule {
     /// The mean of the three, in which the cell itself counts twice, rounded towards zero.
     Smooth,

@@ -11,7 +11,7 @@ pub struct Report {
 }
 
 /// Why no more is read. What was read is worked on to its end.
-#[derive(Clone, Copy, Debug, PartialEq, Eq, Hash)]
+#[derive(Clone, Copy, Debug, PartialEq, Eq)]
 pub enum Stop {
     /// The input ended.
     End,

@@ -3,7 +3,7 @@ use ff_io::Failed;
 use ff_rec::NoMemory;
 
 /// Why the work breaks off before its end.
-#[derive(Clone, Copy, Debug, PartialEq, Eq, Hash)]
+#[derive(Clone, Copy, Debug, PartialEq, Eq)]
 pub enum Halt {
     /// The sink failed. Nothing more is read.
     Write,
@@ -11,7 +11,7 @@ pub enum Halt {
 }
 
 /// Why a run ended without its answer.
-#[derive(Clone, Copy, Debug, PartialEq, Eq, Hash)]
+#[derive(Clone, Copy, Debug, PartialEq, Eq)]
 pub enum RunFault {
     /// A wrap has more tasks than its limit. Nothing was written.
     Tasks,

@@ -4,7 +4,7 @@ use ff_spawn::Denial;
 use std::alloc::AllocError;
 
 /// Why not all tasks were answered. All threads that were started are joined.
-#[derive(Clone, Copy, Debug, PartialEq, Eq, Hash)]
+#[derive(Clone, Copy, Debug, PartialEq, Eq)]
 pub enum LoopFault {
     /// The start of a thread was refused. No task was given.
     Refused,

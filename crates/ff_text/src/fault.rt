@@ -3,7 +3,7 @@ use ff_rec::NoMemory;
 use std::alloc::AllocFailed;
 
 /// What is wrong with a text at its first fault.
-#[derive(Clone, Copy, Debug, PartialEq, Eq, Hash)]
+#[derive(Clone, Copy, Debug, PartialEq, Eq)]
 pub enum TextKind {
     /// No token begins at this byte.
     BadByte,
@@ -24,7 +24,7 @@ pub enum TextKind {
 }
 
 /// Why a text isn't read.
-#[derive(Clone, Copy, Debug, PartialEq, Eq, Hash)]
+#[derive(Clone, Copy, Debug, PartialEq, Eq)]
 pub enum ReadFault {
     /// The first fault, and the place of its first byte, from 0.
     Text { at: usize, kind: TextKind },

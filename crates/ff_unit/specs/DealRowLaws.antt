@@ -2,8 +2,8 @@
 use Rattle.std.specs.Prelude.{◌≡◌, ◌+◌, ◌<◌, ℕ, zero, suc, List, [], ◌∷◌, ◌++◌, length, map, replicate}
 use Rattle.std.proofs.Common.{refl, sym, ap, ◌∙◌, subst, ⊎_elim, arith, append-nil}
 use Rattle.std.proofs.lemmas.Bool.{cases_eq}
-use Rattle.ff_rec.specs.Streams.{at, added, unaborted, closed, GoesOn}
-use Rattle.ff_node.specs.Runs.{Message, AllGoOn}
+use Rattle.ff_rec.specs.Streams.{IsOpen, at, added, unaborted, closed, GoesOn}
+use Rattle.ff_node.specs.Runs.{Message, AllGoOn, AreOpen}
 use Rattle.std.proofs.lemmas.List.{length-replicate}
 use Rattle.ff_unit.specs.TakenLaws.{at-added, at-added_other, at-none, length-added}
 use Rattle.ff_unit.specs.DealPairLaws.{Pair, on, on-append, on-own, on-other}
@@ -69,6 +69,11 @@ rows-closed f k (suc n) (l ∷ lists) number each =
     rows-closed f (suc k) n lists (omega (arith, number)) (λ j below.
     let next : k + suc j ≡ suc k + j = omega arith in each (suc j) (omega arith) ∙ ap (λ i. closed (f i)) next) in
     ap (λ a. a ∷ lists) here ∙ ap (λ ls. closed (f k) ∷ ls) rest
+
+-- no end stands in any row
+pub AreOpen-rows : (f : ℕ → List Message) (k n : ℕ) → ((j : ℕ) → IsOpen (f j)) → AreOpen (rows f k n)
+AreOpen-rows f k zero each = tt
+AreOpen-rows f k (suc n) each = (each k, AreOpen-rows f (suc k) n each)
 
 -- every out goes on
 pub AllGoOn-rows : (f : ℕ → List Message) (k n : ℕ) (lists : List (List Message)) → length lists ≡ n

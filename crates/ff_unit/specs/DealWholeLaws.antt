@@ -8,9 +8,9 @@ use Rattle.ff_port.specs.declared.answers.End.TheVariants.{Eos}
 use Rattle.ff_unit.specs.Closing.{decided}
 use Rattle.ff_unit.specs.Deals.{DealState, FitsDeal, deal_outs}
 use Rattle.ff_unit.specs.DealFitsLaws.{outs_of, FitsDeal-sent}
-use Rattle.ff_unit.specs.DealPairLaws.{on}
-use Rattle.ff_unit.specs.DealRowLaws.{rows-closed}
-use Rattle.ff_unit.specs.DealSentLaws.{sent}
+use Rattle.ff_unit.specs.DealPairLaws.{on, IsOpen-on}
+use Rattle.ff_unit.specs.DealRowLaws.{rows-closed, AreOpen-rows}
+use Rattle.ff_unit.specs.DealSentLaws.{sent, AreInner-sent}
 use Rattle.ff_unit.specs.DealTellingLaws.{on-telling}
 use Rattle.ff_unit.specs.DealTiedLaws.{TiedShut, TiedAt, IsTied}
 
@@ -21,6 +21,8 @@ whole-shut u gots puts t none s =
     record {
       ins = s.ms ∷ [];
       outs = outs_of u.way u.places s.picks (items s.ms);
+      ins_open = (s.inner, tt);
+      outs_open = AreOpen-rows (λ j. on j all) 0 number (λ j. IsOpen-on number j all (AreInner-sent u.way u.places s.picks (items s.ms) s.picked.within));
       gots_are = t.gots_are ∙ ap (λ l. l ∷ []) s.is;
       puts_are = rows-closed (λ j. on j all) 0 number puts t.puts_are.outs (λ j below.
           let same : j ≡ 0 + j = omega arith in

@@ -121,6 +121,8 @@ module _ (n : ℕ) (u : MergeState) (gots puts : List (List Message)) (t : Merge
       record {
         ins = c.inner;
         outs = carried t.ys ∷ [];
+        ins_open = c.opens;
+        outs_open = (IsOpen-carried t.ys, tt);
         gots_are = c.are;
         puts_are = t.puts_are ∙ ap (λ l. l ∷ []) (sym (append-nil t.put) ∙ out);
         fits = FitsMerge-shares n c.inner t.ins.picks t.ys number t.ins.picks_are (λ j below. same_items c.inner c.are j (omega (arith, below, number)) ∙ t.ins.shares j);

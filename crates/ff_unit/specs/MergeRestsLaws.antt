@@ -2,7 +2,7 @@
 use Rattle.std.proofs.Common.{◌≡◌, ℕ, zero, suc, ◌<◌, List, [], ◌∷◌, ◌++◌, length, map, get_or, sym, ap, ◌∙◌, refl, arith}
 use Rattle.ff_rec.specs.Lines.{Rec}
 use Rattle.ff_rec.specs.Streams.{at, items, closed, unaborted, GoesOn}
-use Rattle.ff_node.specs.Runs.{Message, AllGoOn}
+use Rattle.ff_node.specs.Runs.{Message, AllGoOn, AreOpen}
 use Rattle.ff_unit.specs.CarriedLaws.{items-unaborted, items-closed, closed-behind}
 use Rattle.ff_unit.specs.MessageLaws.{items-append, unaborted-closed}
 use Rattle.ff_unit.specs.ShareLaws.{joined}
@@ -55,13 +55,15 @@ rests-closed (g ∷ gots) (ms ∷ ins) on c =
 -- lists each of which was closed by its one Eos
 pub record AreClosed (gots : List (List Message)) : Type 0 where
   pub inner : List (List Message)
+  pub opens : AreOpen inner
   pub are : gots ≡ map closed inner
 
 pub AreClosed-each : (gots : List (List Message)) → ((j : ℕ) → j < length gots → IsClosed (at gots j)) → AreClosed gots
-AreClosed-each [] c = record { inner = []; are = refl }
+AreClosed-each [] c = record { inner = []; opens = tt; are = refl }
 AreClosed-each (g ∷ gots) c =
     let first = c 0 (omega arith) in
     let rest = AreClosed-each gots (λ j below. c (suc j) (omega (arith, below))) in record {
       inner = first.inner ∷ rest.inner;
+      opens = (first.open_inner, rest.opens);
       are = ap (λ l. l ∷ gots) first.is ∙ ap (λ ls. closed first.inner ∷ ls) rest.are;
     }

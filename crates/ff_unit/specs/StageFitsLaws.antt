@@ -1,7 +1,7 @@
 -- A stage that has ended with its in fits what it took and put.
 use Rattle.std.proofs.Common.{◌≡◌, true, List, [], ◌∷◌, ◌++◌, Option, Some, sym, ap, ◌∙◌, subst, append-nil}
 use Rattle.std.proofs.lemmas.Option.{none-some}
-use Rattle.ff_rec.specs.Streams.{closed}
+use Rattle.ff_rec.specs.Streams.{IsOpen, closed}
 use Rattle.ff_node.specs.Behaviour.{Behaviour, KeepsKind}
 use Rattle.ff_node.specs.Classes.{ClassLaw}
 use Rattle.ff_node.specs.Fits.{FitsStage}
@@ -12,13 +12,14 @@ use Rattle.ff_unit.specs.Stage.{StageState, opening_stage}
 use Rattle.ff_unit.specs.StageSteps.{StageStep}
 use Rattle.ff_unit.specs.declared.mode.Mode.{Mode}
 use Rattle.ff_unit.specs.declared.mode.Mode.TheVariants.{Live, Shut, Cut}
-use Rattle.ff_unit.specs.AnswerLaws.{answer, answer-closed, FitsStage-answer}
+use Rattle.ff_unit.specs.AnswerLaws.{answer, answer-closed, FitsStage-answer, IsOpen-answer}
 use Rattle.ff_unit.specs.StageKeptLaws.{HasRun-tied}
 use Rattle.ff_unit.specs.StageTiedLaws.{TiedAt, IsClosed, EndsIn, IsCutEnd}
 
 -- an in that was ended, and the whole answer to it
 record IsWhole {N : Type 0} (b : Behaviour N) (o : N) (g t : List Message) : Type 0 where
   ins : List Message
+  ins_open : IsOpen ins
   ins_are : g ≡ closed ins
   outs_are : t ≡ closed (answer b o ins)
 
@@ -29,6 +30,7 @@ TiedAt-whole b o Live n fin g t h e = absurd (none-some Eos (sym h.undecided ∙
 TiedAt-whole b o Shut n fin g t h e =
     let ins : IsClosed g = subst (λ f. EndsIn f g) e h.ends in record {
       ins = ins.inner;
+      ins_open = ins.open_inner;
       ins_are = ins.is;
       outs_are = h.is ∙ ap closed (sym (h.exact []) ∙ ap (answer b o) (append-nil g ∙ ins.is) ∙ answer-closed b o ins.inner);
     }
@@ -45,6 +47,8 @@ module _ {N : Type 0} (b : Behaviour N) (kind : KeepsKind b) where
       let whole = TiedAt-whole b o u.mode u.node u.fin r.got r.put put fin in record {
         ins = whole.ins ∷ [];
         outs = answer b o whole.ins ∷ [];
+        ins_open = (whole.ins_open, tt);
+        outs_open = (IsOpen-answer b o whole.ins, tt);
         gots_are = r.gots_are ∙ ap (λ l. l ∷ []) whole.ins_are;
         puts_are = r.puts_are ∙ ap (λ l. l ∷ []) whole.outs_are;
         fits = FitsStage-answer b u.node (law u.node) whole.ins;

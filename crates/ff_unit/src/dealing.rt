@@ -1,7 +1,7 @@
 // How records are dealt.
 
 /// By what a deal chooses the out of a record, and whether each record is a group of its own, with a Mark behind it.
-#[derive(Clone, Copy, Debug, PartialEq, Eq, Hash)]
+#[derive(Clone, Copy, Debug, PartialEq, Eq)]
 pub enum Dealing {
     /// One out after the other.
     InTurn,

@@ -1,7 +1,7 @@
 // Where a unit stands.
 
 /// Whether a unit goes on with its work.
-#[derive(Clone, Copy, Debug, PartialEq, Eq, Hash)]
+#[derive(Clone, Copy, Debug, PartialEq, Eq)]
 pub enum Mode {
     /// It takes records and works on them.
     Live,

@@ -4,7 +4,7 @@ use ff_plan::Queue;
 use std::alloc::AllocError;
 
 /// Why words gave no command.
-#[derive(Clone, Copy, Debug, PartialEq, Eq, Hash)]
+#[derive(Clone, Copy, Debug, PartialEq, Eq)]
 pub enum CommandFault {
     /// The words aren't a command.
     Usage,
@@ -12,7 +12,7 @@ pub enum CommandFault {
 }
 
 /// What divide and conquer works out.
-#[derive(Clone, Copy, Debug, PartialEq, Eq, Hash)]
+#[derive(Clone, Copy, Debug, PartialEq, Eq)]
 pub enum DcRule {
     Fib,
     Sum,

@@ -3,7 +3,7 @@ use ff_node::{Class, Next, Node, Sends};
 use ff_rec::{NoMemory, Record};
 
 /// A node that sends each record of at most so many fields, and rejects the others.
-#[derive(Clone, Copy, Debug, PartialEq, Eq, Hash)]
+#[derive(Clone, Copy, Debug, PartialEq, Eq)]
 pub struct Narrow {
     pub most: usize,
 }

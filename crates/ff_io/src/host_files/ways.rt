@@ -18,8 +18,8 @@ pub enum Way {
     /// The name stands for standard error. Opened anew, a file that it is led to would be written from its beginning
     /// by what comes after.
     StandardError,
-    /// The name is that of the very file that standard input, output or error is led to, or that was loaded: a new file in its
-    /// place would lose what is read from there or was written there.
+    /// The name is that of the very file or pipe that standard input is led to, of the file that output or error is led to, or of
+    /// the one that was loaded: what is read from there or was written there would be lost, or read again.
     Never,
 }
 
@@ -47,13 +47,17 @@ pub fn way_of<R: FileSystem>(rt: &R, name: &str, loaded: Option<Identity>) -> Wa
     if is_of_system(name) && is_file_of(rt, &file, "/dev/stderr") {
         return Way::StandardError;
     }
-    if file.file_type().is_fifo() {
+    let is_pipe = file.file_type().is_fifo();
+    if (is_pipe || file.is_file()) && is_file_of(rt, &file, "/dev/stdin") {
+        return Way::Never;
+    }
+    if is_pipe {
         return Way::Pipe;
     }
     if is_of_system(name) || !file.is_file() {
         return Way::Append;
     }
-    if is_of_stream(rt, &file) || loaded == Some((file.dev(), file.ino())) {
+    if is_written(rt, &file) || loaded == Some((file.dev(), file.ino())) {
         return Way::Never;
     }
     if link.is_file() {
@@ -68,11 +72,9 @@ fn is_of_system(name: &str) -> bool {
     name.starts_with("/dev/") || name.starts_with("/proc/")
 }
 
-// Whether this is the file that a standard stream is led to.
-fn is_of_stream<R: FileSystem>(rt: &R, file: &Metadata) -> bool {
-    is_file_of(rt, file, "/dev/stdin")
-        || is_file_of(rt, file, "/dev/stdout")
-        || is_file_of(rt, file, "/dev/stderr")
+// Whether this is the file that standard output or standard error is led to.
+fn is_written<R: FileSystem>(rt: &R, file: &Metadata) -> bool {
+    is_file_of(rt, file, "/dev/stdout") || is_file_of(rt, file, "/dev/stderr")
 }
 
 // Whether this is the file that another name stands for.

@@ -10,7 +10,7 @@ use ff_node::Sends;
 use ff_rec::{Kept, NoMemory, Record};
 
 /// It is decided before the record is changed, since a rejected record is rejected as it came.
-#[derive(Clone, Copy, Debug, PartialEq, Eq, Hash)]
+#[derive(Clone, Copy, Debug, PartialEq, Eq)]
 pub(crate) enum Answer {
     /// Nothing is sent.
     Nothing,
